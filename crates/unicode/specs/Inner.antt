@@ -1,0 +1,36 @@
+-- What the private functions of src/utf8.rt answer, step by step. No public contract cites this file. Assumes nothing.
+use Prim.Native.Nat.{ℕ, _+_, _-_, _*_}
+use mathlib.Core.Bool.{cond, _&&_}
+use mathlib.Core.List.{List}
+use lib.ListN.{getD}
+use lib.Dec.{ltb, leb}
+use Rattle.unicode.specs.declared.utf8.Bits.{Bits}
+use Rattle.unicode.specs.declared.utf8.Bits.the-variants.{Read, Broken}
+use Rattle.unicode.specs.declared.utf8.Utf8Step.{Utf8Step}
+use Rattle.unicode.specs.declared.utf8.Utf8Step.the-variants.{Char, Stop}
+use Rattle.unicode.specs.Chars.{isChar}
+
+-- the bits with the six of the byte at i behind them, if it is a continuation byte, 80..BF
+unfoldable pub moreOf : List ℕ → ℕ → ℕ → Bits
+moreOf bs i bits = cond (leb 0x80 (getD bs i 0) && leb (getD bs i 0) 0xBF) (Read (bits * 64 + (getD bs i 0 - 0x80))) Broken
+
+-- goes on with the bits, and stops where a byte is missing
+abbrev pub onBits : Bits → (ℕ → Utf8Step) → Utf8Step
+onBits (Read v) go = go v
+onBits Broken go = Stop
+
+-- a value is kept if it is a character that needs so many bytes
+unfoldable pub keptOf : ℕ → ℕ → ℕ → Utf8Step
+keptOf least c next = cond (leb least c && isChar c) (Char c next) Stop
+
+-- the rows of the table, from the bits of the lead byte at `at`
+abbrev pub twoOf : List ℕ → ℕ → ℕ → Utf8Step
+twoOf bs at lead = onBits (moreOf bs (at + 1) lead) (λ v. keptOf 0x80 v (at + 2))
+
+abbrev pub threeOf : List ℕ → ℕ → ℕ → Utf8Step
+threeOf bs at lead = onBits (moreOf bs (at + 1) lead) (λ v. onBits (moreOf bs (at + 2) v) (λ w. keptOf 0x800 w (at + 3)))
+
+abbrev pub fourOf : List ℕ → ℕ → ℕ → Utf8Step
+fourOf bs at lead =
+    onBits (moreOf bs (at + 1) lead)
+    (λ v. onBits (moreOf bs (at + 2) v) (λ w. onBits (moreOf bs (at + 3) w) (λ x. keptOf 0x10000 x (at + 4))))

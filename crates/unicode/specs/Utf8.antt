@@ -1,0 +1,95 @@
+-- UTF-8 as RFC 3629 defines it: which bytes encode which character, and what reading and writing them gives.
+-- Assumes nothing.
+use Prim.Native.Nat.{ℕ, zero, suc, _+_, _/_, _%_, _≤_}
+use mathlib.Core.Path.{_≡_}
+use mathlib.Core.Bool.{Bool, true, false, cond, _&&_}
+use mathlib.Core.List.{List, [], _∷_, _++_}
+use lib.ListN.{length, take, drop}
+use lib.Dec.{ltb, leb, eqb}
+use Rattle.unicode.specs.declared.utf8.Encoded.{Encoded}
+use Rattle.unicode.specs.declared.utf8.Encoded.the-variants.{Next, Refused}
+use Rattle.unicode.specs.declared.utf8.Prefix.{Prefix}
+use Rattle.unicode.specs.declared.utf8.Utf8Step.{Utf8Step}
+use Rattle.unicode.specs.declared.utf8.Utf8Step.the-variants.{Char, Stop}
+use Rattle.unicode.specs.Chars.{isChar, areChars}
+
+-- the bytes that encode a character: section 3, the table
+--     0000..007F     0xxxxxxx
+--     0080..07FF     110xxxxx 10xxxxxx
+--     0800..FFFF     1110xxxx 10xxxxxx 10xxxxxx
+--     10000..10FFFF  11110xxx 10xxxxxx 10xxxxxx 10xxxxxx
+unfoldable pub encodeOf : ℕ → List ℕ
+encodeOf c =
+    cond (ltb c 0x80) (c ∷ [])
+    (cond (ltb c 0x800) ((0xC0 + c / 64) ∷ (0x80 + c % 64) ∷ [])
+    (cond (ltb c 0x10000) ((0xE0 + c / 4096) ∷ (0x80 + c / 64 % 64) ∷ (0x80 + c % 64) ∷ [])
+    ((0xF0 + c / 262144) ∷ (0x80 + c / 4096 % 64) ∷ (0x80 + c / 64 % 64) ∷ (0x80 + c % 64) ∷ [])))
+
+-- the bytes that encode a list of characters
+abbrev pub encodes : List ℕ → List ℕ
+encodes [] = []
+encodes (c ∷ cs) = encodeOf c ++ encodes cs
+
+-- ---- reading
+-- whether the bytes bs begin with ws
+abbrev pub begins : List ℕ → List ℕ → Bool
+begins [] bs = true
+begins (w ∷ ws) [] = false
+begins (w ∷ ws) (b ∷ bs) = eqb w b && begins ws bs
+
+-- the character below n with whose encoding bs begins, and the place after it if bs stands at `at`; Stop where there is none
+unfoldable pub stepBelow : ℕ → List ℕ → ℕ → Utf8Step
+stepBelow zero bs at = Stop
+stepBelow (suc c) bs at =
+    cond (isChar c && begins (encodeOf c) bs) (Char c (at + length (encodeOf c))) (stepBelow c bs at)
+
+-- the character whose encoding stands at `at` (no two do: `step-exactly`), and the place after it; Stop where none stands there
+unfoldable pub stepOf : List ℕ → ℕ → Utf8Step
+stepOf bs at = stepBelow 0x110000 (drop at bs) at
+
+-- the character, and then what comes from the next place on
+abbrev pub onChar : Utf8Step → (ℕ → List ℕ) → List ℕ
+onChar (Char c next) rest = c ∷ rest next
+onChar Stop rest = []
+
+-- the characters from `at` on, up to the first stop and at most n
+abbrev pub charsFrom : ℕ → List ℕ → ℕ → List ℕ
+charsFrom zero bs at = []
+charsFrom (suc n) bs at = onChar (stepOf bs at) (λ next. charsFrom n bs next)
+
+-- the characters of the longest valid prefix (`longest`, `longest-only`)
+unfoldable pub charsOf : List ℕ → List ℕ
+charsOf bs = charsFrom (length bs) bs 0
+
+-- what the longest valid prefix is: no characters encode to a longer start of bs
+pub record Longest (bs cs : List ℕ) : Type 0 where
+  pub chars : areChars cs ≡ true
+  pub starts : begins (encodes cs) bs ≡ true
+  pub most : (ds : List ℕ) → areChars ds ≡ true → begins (encodes ds) bs ≡ true → length (encodes ds) ≤ length (encodes cs)
+
+-- how many characters, and how many bytes they take
+abbrev pub countsOf : List ℕ → Prefix
+countsOf cs = record { chars = length cs; bytes = length (encodes cs) }
+
+-- the characters that are decoded into the places out: those of the longest valid prefix, as many as there are places
+abbrev pub decodeOf : List ℕ → List ℕ → List ℕ
+decodeOf bs out = take (length out) (charsOf bs)
+
+-- the places as decoding leaves them: the characters from the first on, and the others as they were
+abbrev pub decodePlaces : List ℕ → List ℕ → List ℕ
+decodePlaces bs out = decodeOf bs out ++ drop (length (decodeOf bs out)) out
+
+-- ---- writing
+-- the answer of encoding c at `at`: 1 for a number that is no character, 8 for too few bytes from there on, else the place after it
+abbrev pub encodeAnswer : ℕ → List ℕ → ℕ → Encoded
+encodeAnswer c buf at =
+    cond (isChar c) (cond (leb (at + length (encodeOf c)) (length buf)) (Next (at + length (encodeOf c))) (Refused 8))
+    (Refused 1)
+
+-- the bytes with ws at `at`, and the others as they were
+abbrev pub withBytes : List ℕ → List ℕ → ℕ → List ℕ
+withBytes ws buf at = take at buf ++ ws ++ drop (at + length ws) buf
+
+-- the bytes as encoding leaves them: unchanged by a refusal
+abbrev pub encodeBytes : ℕ → List ℕ → ℕ → List ℕ
+encodeBytes c buf at = cond (isChar c && leb (at + length (encodeOf c)) (length buf)) (withBytes (encodeOf c) buf at) buf
