@@ -1,0 +1,85 @@
+// Answers, put together in a lent output buffer. Each function takes how many bytes wait there, at,
+// and answers how many wait then. A full buffer is written out, so there is room for any answer. A
+// write that fails is not told: what is missing shows when the answers are compared.
+use crate::front;
+use libc::STDOUT_FILENO;
+
+// Why a line is no operation.
+pub enum Why {
+    Word,
+    Number,
+    Byte,
+    Many,
+    Long,
+}
+
+// Writes out the bytes that wait.
+pub fn flush(out: &[u8], at: usize) {
+    io::write_all(STDOUT_FILENO, front::bytes(out, at));
+}
+
+pub fn byte(out: &mut [u8], at: usize, b: u8) -> usize {
+    if at < out.len() {
+        out[at] = b;
+        return at + 1;
+    }
+    flush(out, at);
+    if 0 < out.len() {
+        out[0] = b;
+        return 1;
+    }
+    0
+}
+
+pub fn text(out: &mut [u8], at: usize, bytes: &[u8]) -> usize {
+    let mut end = at;
+    let mut i = 0;
+    while i < bytes.len() {
+        end = byte(out, end, bytes[i]);
+        i += 1;
+    }
+    end
+}
+
+// A number in hexadecimal, lower case, with no zeros in front.
+pub fn hex(out: &mut [u8], at: usize, n: u64) -> usize {
+    let mut digits = [0u8; 16];
+    let k = io::hex(n, 1, &mut digits);
+    text(out, at, &digits[..k])
+}
+
+pub fn decimal(out: &mut [u8], at: usize, n: u64) -> usize {
+    let mut digits = [0u8; 20];
+    let k = io::decimal(n, &mut digits);
+    text(out, at, &digits[..k])
+}
+
+fn wide(n: u32) -> u64 {
+    n as u64
+}
+
+// Numbers in hexadecimal, joined by commas, or `-` where there are none.
+pub fn list(out: &mut [u8], at: usize, numbers: &[u32]) -> usize {
+    if numbers.len() == 0 {
+        return byte(out, at, b'-');
+    }
+    let mut end = hex(out, at, wide(numbers[0]));
+    let mut i = 1;
+    while i < numbers.len() {
+        end = byte(out, end, b',');
+        end = hex(out, end, wide(numbers[i]));
+        i += 1;
+    }
+    end
+}
+
+// The whole line that says why: `? ` and a word.
+pub fn refuse(out: &mut [u8], at: usize, why: Why) -> usize {
+    match why {
+        Why::Word => text(out, at, b"? word\n"),
+        Why::Number => text(out, at, b"? number\n"),
+        Why::Byte => text(out, at, b"? byte\n"),
+        Why::Many => text(out, at, b"? many\n"),
+        Why::Long => text(out, at, b"? long\n"),
+    }
+}

@@ -1,0 +1,72 @@
+// The operation `P`: the current page, which stands in a lent buffer from its first place on.
+use crate::State;
+use crate::answer;
+use crate::answer::Why;
+use crate::front;
+use crate::words;
+use crate::words::Rest;
+use crate::words::Stored;
+ghost use mathlib.Core.Path.{_≡_};
+ghost use lib.ListN.{length};
+
+// How many numbers the page of the start has.
+pub const FIRST: usize = 4;
+
+// The places with the page of the start, `0 1 0 377`: no nonstarters, and 0 to 377 assigned.
+pub fn first() -> [u32; 9000]
+    ensures { λ r. ⌜ 9000 ≡ length r ⌝ }
+{
+    let mut page = [0u32; 9000];
+    page[1] = 1;
+    page[3] = 0x377;
+    page
+}
+
+// Copies the numbers given to the page's places, and answers how many there was room for.
+fn keep(given: &[u32], page: &mut [u32]) -> usize {
+    let mut i = 0;
+    while i < given.len() {
+        if i >= page.len() {
+            break;
+        }
+        page[i] = given[i];
+        i += 1;
+    }
+    i
+}
+
+// Makes the numbers given the current page, right or wrong, and says which.
+fn set(given: &[u32], page: &mut [u32], out: &mut [u8], state: State) -> State {
+    let mut new = state;
+    new.page = keep(given, page);
+    if page::is_accepted(given) {
+        new.out = answer::text(out, state.out, b"page 1\n");
+    } else {
+        new.out = answer::text(out, state.out, b"page 0\n");
+    }
+    new
+}
+
+// Answers a line whose first letter is P.
+pub fn operate(
+    line: &[u8],
+    numbers: &mut [u32],
+    page: &mut [u32],
+    out: &mut [u8],
+    state: State,
+) -> State {
+    let mut new = state;
+    let Rest::At(place) = words::after(line, b"P") else {
+        new.out = answer::refuse(out, state.out, Why::Word);
+        return new;
+    };
+    match words::numbers(line, place, numbers) {
+        Stored::Bad(why) => {
+            new.out = answer::refuse(out, state.out, why);
+        }
+        Stored::All(n) => {
+            new = set(front::numbers(numbers, n), page, out, state);
+        }
+    }
+    new
+}

@@ -1,0 +1,133 @@
+// Replays operations of the library: reads them from standard input, one to a line, and writes an
+// answer line for each to standard output. Here are the buffers, the loop over the input, and the
+// way from a line to the module that answers it.
+//
+// A function that answers is lent the buffers: line, the operation; numbers, for the numbers that
+// it gives; page, the current page; places, for what an entry stores; and out, the answers that
+// wait to be written.
+mod answer;
+mod current;
+mod front;
+mod leaves;
+mod lines;
+mod words;
+
+use answer::Why;
+use libc::STDIN_FILENO;
+
+// What lasts from line to line beside the lent buffers.
+pub struct State {
+    // How many numbers the current page has.
+    pub page: usize,
+    // How many bytes of the line are read.
+    pub line: usize,
+    // How many bytes of answers wait in the output buffer.
+    pub out: usize,
+}
+
+impl State {
+    fn new() -> Self {
+        State {
+            page: current::FIRST,
+            line: 0,
+            out: 0,
+        }
+    }
+}
+
+// Answers a line: its first letter says which module has the operation.
+fn operate(
+    line: &[u8],
+    numbers: &mut [u32],
+    page: &mut [u32],
+    places: &mut [u32],
+    out: &mut [u8],
+    state: State,
+) -> State {
+    let first = lines::first(line);
+    let mut new = state;
+    if first == b'P' {
+        new = current::operate(line, numbers, page, out, state);
+    } else if first == b'L' {
+        new.out = leaves::operate(line, numbers, places, out, state.out);
+    } else {
+        new.out = answer::refuse(out, state.out, Why::Word);
+    }
+    new
+}
+
+// Ends the line that is read so far: answers it, and starts the next.
+fn end_line(
+    line: &[u8],
+    numbers: &mut [u32],
+    page: &mut [u32],
+    places: &mut [u32],
+    out: &mut [u8],
+    state: State,
+) -> State {
+    let n = state.line;
+    let mut new = state;
+    new.line = 0;
+    if lines::is_silent(line, n) {
+        return new;
+    }
+    if n <= line.len() {
+        let whole = front::bytes(line, n);
+        return operate(whole, numbers, page, places, out, new);
+    }
+    new.out = answer::refuse(out, new.out, Why::Long);
+    new
+}
+
+// Takes a block of the input, and answers each line that ends in it.
+fn take_block(
+    block: &[u8],
+    line: &mut [u8],
+    numbers: &mut [u32],
+    page: &mut [u32],
+    places: &mut [u32],
+    out: &mut [u8],
+    start: State,
+) -> State {
+    let mut state = start;
+    let mut i = 0;
+    while i < block.len() {
+        let b = block[i];
+        if b == b'\n' {
+            state = end_line(line, numbers, page, places, out, state);
+        } else {
+            state.line = lines::push(line, state.line, b);
+        }
+        i += 1;
+    }
+    state
+}
+
+// Reads the input to its end, or to a read that fails. A proved loop has to end, and nothing says
+// that the input does: so the loop counts its turns down, from a number that no run uses up.
+fn run(line: &mut [u8], numbers: &mut [u32], page: &mut [u32], places: &mut [u32], out: &mut [u8]) {
+    let mut block = io::large_buffer();
+    let mut state = State::new();
+    let mut turns = u64::MAX;
+    while turns > 0 {
+        let got = libc::read(STDIN_FILENO, &mut block);
+        let n = io::count(got, &block);
+        if n == 0 {
+            break;
+        }
+        state = take_block(&block[..n], line, numbers, page, places, out, state);
+        turns -= 1;
+    }
+    state = end_line(line, numbers, page, places, out, state);
+    answer::flush(out, state.out);
+}
+
+// The sizes are the limits on a line, its numbers and the places lent to a call.
+fn main() {
+    let mut line = [0u8; 98304];
+    let mut numbers = [0u32; 9000];
+    let mut page = current::first();
+    let mut places = [0u32; 16384];
+    let mut out = io::large_buffer();
+    run(&mut line, &mut numbers, &mut page, &mut places, &mut out);
+}
