@@ -58,6 +58,11 @@ fn wide(n: u32) -> u64 {
     n as u64
 }
 
+// A 32-bit number in hexadecimal.
+pub fn number(out: &mut [u8], at: usize, n: u32) -> usize {
+    hex(out, at, wide(n))
+}
+
 // Numbers in hexadecimal, joined by commas, or `-` where there are none.
 pub fn list(out: &mut [u8], at: usize, numbers: &[u32]) -> usize {
     if numbers.len() == 0 {
@@ -71,6 +76,13 @@ pub fn list(out: &mut [u8], at: usize, numbers: &[u32]) -> usize {
         i += 1;
     }
     end
+}
+
+// The whole line of a refusal that carries nothing more: `no ` and its number, in decimal.
+pub fn no(out: &mut [u8], at: usize, n: u32) -> usize {
+    let mut end = text(out, at, b"no ");
+    end = decimal(out, end, n as u64);
+    byte(out, end, b'\n')
 }
 
 // The whole line that says why: `? ` and a word.

@@ -49,7 +49,8 @@ fn operate(
     if first == b'P' {
         new = current::operate(line, numbers, page, out, state);
     } else if first == b'L' {
-        new.out = leaves::operate(line, numbers, places, out, state.out);
+        let now = front::numbers(page, state.page);
+        new.out = leaves::operate(line, numbers, now, places, out, state.out);
     } else {
         new.out = answer::refuse(out, state.out, Why::Word);
     }

@@ -77,6 +77,24 @@ pub fn number(line: &[u8], from: usize) -> Value {
     Value::Is(value, i)
 }
 
+// The one number of an operation, or why there is none.
+pub enum Single {
+    Is(u32),
+    Bad(Why),
+}
+
+// The number from a place to the line's end.
+pub fn one_number(line: &[u8], place: usize) -> Single {
+    if place < line.len() {
+        if let Value::Is(value, end) = number(line, place + 1) {
+            if end == line.len() {
+                return Single::Is(value);
+            }
+        }
+    }
+    Single::Bad(Why::Number)
+}
+
 // How many are stored, or why not all can be.
 pub enum Stored {
     All(usize),

@@ -1,0 +1,115 @@
+-- What any character is replaced by, as a table's rule: one test that antt computes over the rows of `replace` and of the check,
+-- and the law that carries it to every number. Assumes nothing.
+--     replaced-clean        what replaces a character but ESC is accepted by the check, or is 2126, 212A, 212B or a CJK compatibility
+--                           ideograph that the check lists; and is no ESC
+--     replaced-chars        what replaces a character are characters, one to three
+--     self-newline ..       0A, 20, 34F and ESC are their own replacement
+--     accepted-newline ..   0A, 20 and 34F are accepted; 1A is refused, as a control code
+use Prim.Native.Nat.{ℕ, _≤_, _<_}
+use mathlib.Core.Path.{_≡_, refl}
+use mathlib.Core.Bool.{Bool, true, false, not, _&&_, _||_}
+use mathlib.Core.List.{List, [], _∷_}
+use native.Mathlib.Omega.{arith}
+use lib.Dec.{T, ltb, eqb, eqb→eq, not-T, ltb→lt, nltb→le}
+use lib.ListN.{length}
+use Rattle.unicode.specs.Chars.{isChar, areChars}
+use Rattle.replace.specs.declared.Replaced.{Replaced}
+use Rattle.replace.specs.declared.Replaced.the-variants.{One, Two, Three}
+use Rattle.replace.specs.Table.{any}
+use Rattle.replace.specs.Replace.{chars, replaceOf, replacements}
+use Rattle.replace.proofs.Rows.{Piece, _until_, At, here, there, null, not-null, passes, finds, uncovered, covered, or-r, and-i, any-finds, other}
+use Rattle.check_char.specs.Check.{kept, refusals, reasonOf}
+
+-- x is accepted, or one of those that the check lists though nothing replaces them; and is no ESC
+abbrev pub clean : ℕ → Bool
+clean x = (eqb (reasonOf x) 0 || any kept x) && not (eqb x 0x1b)
+
+abbrev pub all : (ℕ → Bool) → List ℕ → Bool
+all f [] = true
+all f (x ∷ xs) = f x && all f xs
+
+line : List Piece
+line = 0 until 0x1b ∷ 0x1c until 0x110000 ∷ []
+
+-- the pieces find no row of the check but for those of `kept`
+open-test : List Piece → Bool
+open-test = passes (λ r qs. null (uncovered kept qs)) (λ qs. true) refusals
+
+row-test : Replaced → List Piece → Bool
+row-test a qs = null qs || all clean (chars a)
+
+test : T (passes row-test open-test replacements line)
+unfolding row-test open-test reasonOf line
+test = tt
+
+accepted : {c : ℕ} (qs : List Piece) → At c qs → T (open-test qs) → T (eqb (reasonOf c) 0 || any kept c)
+unfolding open-test reasonOf
+accepted {c} qs i t =
+    finds (λ r. T (eqb r 0 || any kept c)) (λ r ps. null (uncovered kept ps)) (λ ps. true) 0
+    (λ r ps j u. or-r (eqb r 0) (any kept c) (covered kept ps j u)) (λ ps j u. tt) refusals qs t i
+
+pub replaced-clean : (c : ℕ) → c < 0x110000 → (c ≡ 0x1b → ⊥) → T (all clean (chars (replaceOf c)))
+unfolding replaceOf row-test line
+replaced-clean c h n =
+    finds (λ v. T (all clean (chars v))) row-test open-test (One c)
+    (λ a qs i t. other (null qs) (all clean (chars a)) (not-null qs i) t)
+    (λ qs i t. and-i (clean c) true (and-i (eqb (reasonOf c) 0 || any kept c) (not (eqb c 0x1b)) (accepted qs i t) (not-T (eqb c 0x1b) (λ e. n (eqb→eq c 0x1b e)))) tt)
+    replacements line test place
+  where
+    split : (b : Bool) → (T b → c < 0x1b) → (T (not b) → 0x1b ≤ c) → At c line
+    split true f g = here {x = 0} (omega arith) (f tt)
+    split false f g = let k : 0x1b ≤ c = g tt in there (here {x = 0x1c} (omega arith) h)
+
+    place : At c line
+    place = split (ltb c 0x1b) (ltb→lt c 0x1b) (nltb→le c 0x1b)
+
+-- T of a test, as the equation
+holds : (b : Bool) → T b → b ≡ true
+holds true t = refl
+holds false t = absurd t
+
+is-true : {b : Bool} → b ≡ true → T b
+is-true e = rw e tt
+
+pub replaced-chars : (c : ℕ) → isChar c ≡ true → areChars (chars (replaceOf c)) ≡ true
+unfolding replaceOf isChar
+replaced-chars c h =
+    holds (areChars (chars (replaceOf c)))
+    (any-finds (λ (r : Replaced). areChars (chars r)) replacements (One c) c tt (and-i (isChar c) true (is-true h) tt))
+
+pub replaced-length : (r : Replaced) → (1 ≤ length (chars r)) × (length (chars r) ≤ 3)
+replaced-length (One a) = omega arith
+replaced-length (Two a b) = omega arith
+replaced-length (Three a b c) = omega arith
+
+pub self-newline : replaceOf 0xa ≡ One 0xa
+unfolding replaceOf
+self-newline = refl
+
+pub self-space : replaceOf 0x20 ≡ One 0x20
+unfolding replaceOf
+self-space = refl
+
+pub self-joiner : replaceOf 0x34f ≡ One 0x34f
+unfolding replaceOf
+self-joiner = refl
+
+pub self-escape : replaceOf 0x1b ≡ One 0x1b
+unfolding replaceOf
+self-escape = refl
+
+pub accepted-newline : reasonOf 0xa ≡ 0
+unfolding reasonOf
+accepted-newline = refl
+
+pub accepted-space : reasonOf 0x20 ≡ 0
+unfolding reasonOf
+accepted-space = refl
+
+pub accepted-joiner : reasonOf 0x34f ≡ 0
+unfolding reasonOf
+accepted-joiner = refl
+
+pub refused-substitute : reasonOf 0x1a ≡ 2
+unfolding reasonOf
+refused-substitute = refl

@@ -1,0 +1,124 @@
+-- Which characters are refused, and why: `check_basic_text_char` of internals/src/check.rs, arm by arm in its order. "4 a
+-- character refused by `check_basic_text_char` .., with the reason as the place in `BasicTextError` counted from 1 (2 to 16; 1
+-- is unused); reasons 2, 3, 13, 16 carry it, 16 also its one to three replacements." Assumes nothing.
+use Prim.Native.Nat.{ℕ}
+use mathlib.Core.Bool.{cond, _||_}
+use mathlib.Core.List.{List, [], _∷_}
+use lib.Dec.{eqb}
+use Rattle.unicode.specs.Chars.{isChar}
+use Rattle.replace.specs.declared.Replaced.{Replaced}
+use Rattle.replace.specs.declared.Replaced.the-variants.{One, Two, Three}
+use Rattle.replace.specs.Table.{Span, _to_, one, Row, _gives_, lookup, each}
+use Rattle.replace.specs.Replace.{replaceOf}
+use Rattle.check_char.specs.declared.Replacements.{Replacements}
+use Rattle.check_char.specs.declared.BasicTextError.{BasicTextError}
+use Rattle.check_char.specs.declared.BasicTextError.the-variants.{ColorEscapeSequence, ControlCode, DeprecatedFormatChar, Escape, BidiFormatChar, Interlinear, LanguageTag, LineSeparation, NonChar, ParaSeparation, UnneededBOM, OutOfBand, Omit, Beyyal, UnrecognizedEscape, Replacement}
+use Rattle.check_char.specs.declared.Checked.{Checked}
+use Rattle.check_char.specs.declared.Checked.the-variants.{Ok, Err}
+use Rattle.check_char.specs.declared.Categorized.{Categorized}
+use Rattle.check_char.specs.declared.Categorized.the-variants.{Char, Sub}
+use Rattle.check_char.specs.declared.Answer.{Answer}
+use Rattle.check_char.specs.declared.Answer.the-variants.{Accepted, NotAChar, Refused}
+
+-- the ohm, kelvin and angstrom signs, and the CJK compatibility ideographs: refused, though `replace` has no row for them
+abbrev pub kept : List Span
+kept =
+    one 0x2126 ∷ one 0x212a ∷ one 0x212b ∷
+    0xf900 to 0xfa0d ∷ one 0xfa10 ∷ one 0xfa12 ∷ 0xfa15 to 0xfa1e ∷ one 0xfa20 ∷ one 0xfa22 ∷
+    0xfa25 to 0xfa26 ∷ 0xfa2a to 0xfa6d ∷ 0xfa70 to 0xfad9 ∷ 0x2f800 to 0x2fa1d ∷ []
+
+abbrev pub refusals : List (Row ℕ)
+refusals =
+    -- `c.is_control()` but for newline, tab and ESC
+    each (0x0 to 0x8 ∷ 0xb to 0x1a ∷ 0x1c to 0x1f ∷ 0x7f to 0x9f ∷ []) 2
+    (each
+    (one 0x149 ∷ one 0x673 ∷ one 0xf77 ∷ one 0xf79 ∷ 0x17a3 to 0x17a4 ∷ 0x2329 to 0x232a ∷
+    one 0x2df5 ∷ one 0x111c4 ∷ 0xfb00 to 0xfb06 ∷
+    0x9e4 to 0x9e5 ∷ 0xa64 to 0xa65 ∷ 0xae4 to 0xae5 ∷ 0xb64 to 0xb65 ∷
+    0xbe4 to 0xbe5 ∷ 0xc64 to 0xc65 ∷ 0xce4 to 0xce5 ∷ 0xd64 to 0xd65 ∷ 0x2072 to 0x2073 ∷
+    one 0x1d455 ∷ one 0x1d49d ∷ 0x1d4a0 to 0x1d4a1 ∷ 0x1d4a3 to 0x1d4a4 ∷ 0x1d4a7 to 0x1d4a8 ∷
+    one 0x1d4ad ∷ one 0x1d4ba ∷ one 0x1d4bc ∷ one 0x1d4c4 ∷
+    one 0x1d506 ∷ 0x1d50b to 0x1d50c ∷ one 0x1d515 ∷
+    one 0x1d51d ∷ one 0x1d53a ∷ one 0x1d53f ∷ one 0x1d545 ∷
+    0x1d547 to 0x1d549 ∷ one 0x1d551 ∷ []) 16
+    (each kept 16
+    (one 0xe0001 gives 7 ∷
+    0xfff9 to 0xfffb gives 6 ∷
+    0x17b4 to 0x17b5 gives 13 ∷
+    one 0x17d8 gives 14 ∷
+    0x206a to 0x206f gives 3 ∷
+    one 0x2028 gives 8 ∷
+    one 0x2029 gives 10 ∷
+    0x202a to 0x202e gives 5 ∷ 0x2066 to 0x2069 gives 5 ∷
+    each
+    (0xfffe to 0xffff ∷ 0x1fffe to 0x1ffff ∷ 0x2fffe to 0x2ffff ∷ 0x3fffe to 0x3ffff ∷
+    0x4fffe to 0x4ffff ∷ 0x5fffe to 0x5ffff ∷ 0x6fffe to 0x6ffff ∷ 0x7fffe to 0x7ffff ∷
+    0x8fffe to 0x8ffff ∷ 0x9fffe to 0x9ffff ∷ 0xafffe to 0xaffff ∷ 0xbfffe to 0xbffff ∷
+    0xcfffe to 0xcffff ∷ 0xdfffe to 0xdffff ∷ 0xefffe to 0xeffff ∷ 0xffffe to 0xfffff ∷
+    0x10fffe to 0x10ffff ∷ 0xfdd0 to 0xfdef ∷ []) 9
+    (one 0xfffc gives 12 ∷
+    one 0xfeff gives 11 ∷ []))))
+
+-- the reason's number, and 0 where c is accepted
+unfoldable pub reasonOf : ℕ → ℕ
+reasonOf c = lookup refusals 0 c
+
+-- "`Box<[char]>`: three numbers and a count"
+abbrev pub listedOf : Replaced → Replacements
+listedOf (One a) = record { count = 1; first = a; second = 0; third = 0 }
+listedOf (Two a b) = record { count = 2; first = a; second = b; third = 0 }
+listedOf (Three a b c) = record { count = 3; first = a; second = b; third = c }
+
+abbrev pub listNumbers : Replacements → List ℕ
+listNumbers l = l .count ∷ l .first ∷ l .second ∷ l .third ∷ []
+
+-- a reason's number and its values
+abbrev pub errorNumbers : BasicTextError → List ℕ
+errorNumbers ColorEscapeSequence = 1 ∷ []
+errorNumbers (ControlCode c) = 2 ∷ c ∷ []
+errorNumbers (DeprecatedFormatChar c) = 3 ∷ c ∷ []
+errorNumbers Escape = 4 ∷ []
+errorNumbers BidiFormatChar = 5 ∷ []
+errorNumbers Interlinear = 6 ∷ []
+errorNumbers LanguageTag = 7 ∷ []
+errorNumbers LineSeparation = 8 ∷ []
+errorNumbers NonChar = 9 ∷ []
+errorNumbers ParaSeparation = 10 ∷ []
+errorNumbers UnneededBOM = 11 ∷ []
+errorNumbers OutOfBand = 12 ∷ []
+errorNumbers (Omit c) = 13 ∷ c ∷ []
+errorNumbers Beyyal = 14 ∷ []
+errorNumbers UnrecognizedEscape = 15 ∷ []
+errorNumbers (Replacement y n) = 16 ∷ n ∷ listNumbers y
+
+-- the check's answer: 0 where c is accepted, else the reason's number and its values
+abbrev pub reasonNumbers : Checked → List ℕ
+reasonNumbers Ok = 0 ∷ []
+reasonNumbers (Err e) = errorNumbers e
+
+-- the values that reason r carries for c: 2, 3 and 13 the character, 16 also its replacements
+abbrev pub carried : ℕ → ℕ → List ℕ
+carried r c =
+    cond (eqb r 16) (c ∷ listNumbers (listedOf (replaceOf c))) (cond (eqb r 2 || eqb r 3 || eqb r 13) (c ∷ []) [])
+
+unfoldable pub checkNumbers : ℕ → List ℕ
+checkNumbers c = reasonOf c ∷ carried (reasonOf c) c
+
+-- the entry's answer: 0 for accepted, 1 for no character, 4 with the reason's number and values
+abbrev pub answerNumbers : Answer → List ℕ
+answerNumbers Accepted = 0 ∷ []
+answerNumbers NotAChar = 1 ∷ []
+answerNumbers (Refused e) = 4 ∷ errorNumbers e
+
+-- "Entries on one character give 1 .., the check then 4"
+abbrev pub checkAnswer : ℕ → List ℕ
+checkAnswer c = cond (isChar c) (cond (eqb (reasonOf c) 0) (0 ∷ []) (4 ∷ checkNumbers c)) (1 ∷ [])
+
+-- `Categorize`: the character handed on, and behind a SUB the reason that is kept
+abbrev pub categorizedNumbers : Categorized → List ℕ
+categorizedNumbers (Char c) = c ∷ []
+categorizedNumbers (Sub r) = 0x1a ∷ reasonNumbers (r .error)
+
+-- "Each character is checked, refused ones becoming 1A"
+abbrev pub categorizeOf : ℕ → List ℕ
+categorizeOf c = cond (eqb (reasonOf c) 0) (c ∷ []) (0x1a ∷ checkNumbers c)

@@ -1,0 +1,69 @@
+-- The classes at the characters on which all above them rests. Assumes nothing.
+--     start-low            below 300 a start is a starter
+--     start-marks          on every accepted page 0A, 20 and 34F are starts
+--     end-marks            0A, 20 and 34F are ends
+use mathlib.Core.Path.{_≡_, refl, sym, _∙_}
+use mathlib.Core.Bool.{Bool, true, false, not, _&&_, _||_, and-true, and-false}
+use mathlib.Core.List.{List}
+use Prim.Native.Nat.{ℕ, _≤_, _<_}
+use native.Mathlib.Omega.{arith}
+use lib.Dec.{leb, ltb, eqb}
+use borrow.Author.Tests.{eq-eqb, ne-eqb, le-leb, lt-leb, ltb-true, ltb-false}
+use Rattle.ranges.specs.Ranges.{member}
+use Rattle.ranges.proofs.Laws.{member-below}
+use Rattle.page.specs.Page.{accepted, nonstarter}
+use Rattle.page.proofs.PageLaws.{facts-of-accepted}
+use Rattle.text_utils.specs.Tables.{graphemeExtend, emojiModifier, spacingMark, spacingMarkExceptions}
+use Rattle.text_utils.specs.Classes.{has, starter, graphemeExtendNotCgj, spacingMarkPlus, basicTextStart, basicTextEnd}
+use Rattle.text_utils.proofs.Rising.{high-extend, high-emoji, high-spacing}
+
+-- being m, as a range of one character
+by-lt : {Q : Type 0} (a b : ℕ) → (a < b → Q) → (b ≤ a → Q) → Q
+by-lt {Q} a b f g = go (ltb a b) refl where
+  go : (t : Bool) → ltb a b ≡ t → Q
+  go true e = f (ltb-true a b e)
+  go false e = g (ltb-false a b e)
+
+pub one-char : (m c : ℕ) → leb m c && leb c m ≡ eqb c m
+one-char m c =
+    by-lt c m (λ h. simp (lt-leb m c h, ne-eqb c m (λ e. omega arith)))
+    (λ g. by-lt m c (λ h. simp (le-leb m c g, lt-leb c m h, ne-eqb c m (λ e. omega arith)))
+    (λ h. simp (le-leb m c g, le-leb c m h, eq-eqb c m (omega arith))))
+
+pub start-low : (p : List ℕ) (c : ℕ) → c < 0x300 → basicTextStart p c ≡ starter p c
+unfolding basicTextStart graphemeExtendNotCgj spacingMarkPlus
+start-low p c h =
+    simp (
+      ne-eqb c 0x200d (λ e. omega arith),
+      ne-eqb c 0xe33 (λ e. omega arith),
+      ne-eqb c 0xeb3 (λ e. omega arith),
+      member-below 0x300 _ _ high-extend c h,
+      member-below 0x300 _ _ high-emoji c h,
+      member-below 0x300 _ _ high-spacing c h,
+      and-true,
+    )
+
+module _ (p : List ℕ) (a : accepted p ≡ true) where
+  pub start-newline : basicTextStart p 0xa ≡ true
+  unfolding starter
+  start-newline = start-low p 0xa (omega arith)
+
+  pub start-space : basicTextStart p 0x20 ≡ true
+  unfolding starter
+  start-space = start-low p 0x20 (omega arith)
+
+  pub start-joiner : basicTextStart p 0x34f ≡ true
+  unfolding basicTextStart starter graphemeExtendNotCgj spacingMarkPlus member
+  start-joiner = simp (facts-of-accepted p a .nonstarter-34f)
+
+pub end-newline : basicTextEnd 0xa ≡ true
+unfolding basicTextEnd member
+end-newline = refl
+
+pub end-space : basicTextEnd 0x20 ≡ true
+unfolding basicTextEnd member
+end-space = refl
+
+pub end-joiner : basicTextEnd 0x34f ≡ true
+unfolding basicTextEnd member
+end-joiner = refl

@@ -1,0 +1,62 @@
+-- The boundary classes: "Start and end as `is_basic_text_start`, `is_basic_text_end`" of internals/src/text_utils.rs, over the
+-- properties of UAX #44 and the rules of UAX #29, Table 2. They are defined on every number. Assumes nothing.
+use mathlib.Core.Bool.{Bool, not, cond, _&&_, _||_}
+use mathlib.Core.List.{List}
+use Prim.Native.Nat.{ℕ}
+use lib.Dec.{leb, ltb, eqb}
+use Rattle.unicode.specs.Chars.{isChar}
+use Rattle.ranges.specs.Ranges.{member, firstsOf, lastsOf}
+use Rattle.page.specs.Page.{nonstarter, accepted}
+use Rattle.text_utils.specs.declared.Class.{Class}
+use Rattle.text_utils.specs.declared.Class.the-variants.{Is, Refused}
+use Rattle.text_utils.specs.Tables.{graphemeExtend, emojiModifier, spacingMark, spacingMarkExceptions, consonantPrecedingRepha, consonantPrefixed, prependedConcatenationMark, privateUse}
+
+-- c has the property whose ranges the table lists
+abbrev pub has : List (ℕ × ℕ) → ℕ → Bool
+has t c = member (firstsOf t) (lastsOf t) c
+
+-- ---- start
+-- `is_starter`: every ASCII character, whatever the page says, and what is no nonstarter by the page
+unfoldable pub starter : List ℕ → ℕ → Bool
+starter p c = ltb c 0x80 || not (nonstarter p c)
+
+-- `is_grapheme_extend_not_cgj`: Grapheme_Extend = Yes, except CGJ, 34F
+unfoldable pub graphemeExtendNotCgj : ℕ → Bool
+graphemeExtendNotCgj c = has graphemeExtend c && not (eqb c 0x34f)
+
+-- `is_grapheme_cluster_break_spacing_mark_plus`: E33, EB3, and General_Category = Spacing_Mark but for the exceptions
+unfoldable pub spacingMarkPlus : ℕ → Bool
+spacingMarkPlus c = eqb c 0xe33 || eqb c 0xeb3 || (has spacingMark c && not (has spacingMarkExceptions c))
+
+-- `is_basic_text_start`: a starter that is neither ZWJ, nor Extend (CGJ apart), nor SpacingMark
+unfoldable pub basicTextStart : List ℕ → ℕ → Bool
+basicTextStart p c =
+    starter p c
+    && not (eqb c 0x200d)
+    && not (graphemeExtendNotCgj c)
+    && not (has emojiModifier c)
+    && not (spacingMarkPlus c)
+
+-- ---- end
+-- Prepended_Concatenation_Mark = Yes by Unicode, and not in the Rust: 890 and 891
+abbrev pub lackedByRust : ℕ → Bool
+lackedByRust c = leb 0x890 c && leb c 0x891
+
+-- `is_basic_text_end`: neither ZWJ nor Prepend, as the Rust lists Prepend
+unfoldable pub basicTextEnd : ℕ → Bool
+basicTextEnd c =
+    not (eqb c 0x200d)
+    && not (has consonantPrecedingRepha c)
+    && not (has consonantPrefixed c)
+    && not (has prependedConcatenationMark c && not (lackedByRust c))
+
+-- ---- private use: `is_private_use_area`
+unfoldable pub isPrivateUse : ℕ → Bool
+isPrivateUse c = has privateUse c
+
+-- ---- the entries: "Entries on one character give 1 (the start class 2, then 1)"
+abbrev pub startClass : List ℕ → ℕ → Class
+startClass p c = cond (accepted p) (cond (isChar c) (Is (basicTextStart p c)) (Refused 1)) (Refused 2)
+
+abbrev pub endClass : ℕ → Class
+endClass c = cond (isChar c) (Is (basicTextEnd c)) (Refused 1)

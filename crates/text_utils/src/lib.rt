@@ -1,0 +1,174 @@
+// The boundary classes: which characters may start and end a text, and private use. Ports `is_basic_text_start`,
+// `is_basic_text_end` and what they call in internals/src/text_utils.rs. The Rust's `matches!` are tables here (tables.rt),
+// searched by halves.
+mod tables;
+
+use page::is_accepted;
+use page::is_nonstarter;
+use ranges::in_ranges;
+use unicode::ZWJ;
+use unicode::is_char;
+ghost use mathlib.Core.Path.{_≡_};
+ghost use mathlib.Core.Bool.{true, not, _&&_};
+ghost use Rattle.page.specs.Page.{accepted};
+ghost use Rattle.text_utils.specs.Tables.{emojiModifier, spacingMark, spacingMarkExceptions, consonantPrecedingRepha, consonantPrefixed, prependedConcatenationMark};
+ghost use Rattle.text_utils.specs.Classes.{has, starter, graphemeExtendNotCgj, spacingMarkPlus, basicTextStart, lackedByRust, basicTextEnd, isPrivateUse, startClass, endClass};
+
+fn is_grapheme_extend_not_cgj(c: u32) -> bool
+    ensures { λ r. ⌜ r ≡ graphemeExtendNotCgj c ⌝ }
+{
+    in_ranges(
+        &tables::GRAPHEME_EXTEND_NOT_CGJ_FIRST,
+        &tables::GRAPHEME_EXTEND_NOT_CGJ_LAST,
+        c,
+    )
+}
+
+fn is_emoji_modifier(c: u32) -> bool
+    ensures { λ r. ⌜ r ≡ has emojiModifier c ⌝ }
+{
+    in_ranges(
+        &tables::EMOJI_MODIFIER_FIRST,
+        &tables::EMOJI_MODIFIER_LAST,
+        c,
+    )
+}
+
+fn is_general_category_spacing_mark(c: u32) -> bool
+    ensures { λ r. ⌜ r ≡ has spacingMark c ⌝ }
+{
+    in_ranges(&tables::SPACING_MARK_FIRST, &tables::SPACING_MARK_LAST, c)
+}
+
+fn is_spacing_mark_exception(c: u32) -> bool
+    ensures { λ r. ⌜ r ≡ has spacingMarkExceptions c ⌝ }
+{
+    in_ranges(
+        &tables::SPACING_MARK_EXCEPTION_FIRST,
+        &tables::SPACING_MARK_EXCEPTION_LAST,
+        c,
+    )
+}
+
+fn is_grapheme_cluster_break_spacing_mark_plus(c: u32) -> bool
+    ensures { λ r. ⌜ r ≡ spacingMarkPlus c ⌝ }
+{
+    (c == 0xe33)
+        | (c == 0xeb3)
+        | (is_general_category_spacing_mark(c) & !is_spacing_mark_exception(c))
+}
+
+// Every ASCII character is a starter, whatever the page says. Inner: it asks for an accepted page.
+fn is_starter(page: &[u32], c: u32) -> bool
+    requires { ⌜ accepted (now page) ≡ true ⌝ }
+    ensures { λ r. ⌜ r ≡ starter (now (page .entry)) c ⌝ }
+{
+    if c < 0x80 {
+        return true;
+    }
+    !is_nonstarter(page, c)
+}
+
+// `is_basic_text_start` by the tables. Inner: it asks for an accepted page.
+fn is_start_by_tables(page: &[u32], c: u32) -> bool
+    requires { ⌜ accepted (now page) ≡ true ⌝ }
+    ensures { λ r. ⌜ r ≡ basicTextStart (now (page .entry)) c ⌝ }
+{
+    is_starter(page, c)
+        & (c != ZWJ)
+        & !is_grapheme_extend_not_cgj(c)
+        & !is_emoji_modifier(c)
+        & !is_grapheme_cluster_break_spacing_mark_plus(c)
+}
+
+// Whether c may start a text. No table has a character below 300, so these are starts where they are starters. Inner: it
+// asks for an accepted page.
+pub fn is_basic_text_start(page: &[u32], c: u32) -> bool
+    requires { ⌜ accepted (now page) ≡ true ⌝ }
+    ensures { λ r. ⌜ r ≡ basicTextStart (now (page .entry)) c ⌝ }
+{
+    if c < 0x300 {
+        return is_starter(page, c);
+    }
+    is_start_by_tables(page, c)
+}
+
+fn indic_syllabic_category_consonant_preceding_repha(c: u32) -> bool
+    ensures { λ r. ⌜ r ≡ has consonantPrecedingRepha c ⌝ }
+{
+    in_ranges(
+        &tables::CONSONANT_PRECEDING_REPHA_FIRST,
+        &tables::CONSONANT_PRECEDING_REPHA_LAST,
+        c,
+    )
+}
+
+fn indic_syllabic_category_consonant_prefixed(c: u32) -> bool
+    ensures { λ r. ⌜ r ≡ has consonantPrefixed c ⌝ }
+{
+    in_ranges(
+        &tables::CONSONANT_PREFIXED_FIRST,
+        &tables::CONSONANT_PREFIXED_LAST,
+        c,
+    )
+}
+
+fn prepended_concatenation_mark(c: u32) -> bool
+    ensures { λ r. ⌜ r ≡ has prependedConcatenationMark c && not (lackedByRust c) ⌝ }
+{
+    in_ranges(
+        &tables::PREPENDED_CONCATENATION_MARK_FIRST,
+        &tables::PREPENDED_CONCATENATION_MARK_LAST,
+        c,
+    )
+}
+
+// Whether c may end a text. Total: any number.
+pub fn is_basic_text_end(c: u32) -> bool
+    ensures { λ r. ⌜ r ≡ basicTextEnd c ⌝ }
+{
+    (c != ZWJ)
+        & !indic_syllabic_category_consonant_preceding_repha(c)
+        & !indic_syllabic_category_consonant_prefixed(c)
+        & !prepended_concatenation_mark(c)
+}
+
+// Whether c lies in a private-use area. Total: any number.
+pub fn is_private_use_area(c: u32) -> bool
+    ensures { λ r. ⌜ r ≡ isPrivateUse c ⌝ }
+{
+    in_ranges(
+        &tables::PRIVATE_USE_AREA_FIRST,
+        &tables::PRIVATE_USE_AREA_LAST,
+        c,
+    )
+}
+
+// Whether a character is in a class, or the number of the refusal.
+pub enum Class {
+    Is(bool),
+    Refused(u32),
+}
+
+// Whether the character c may start a text. Total: refuses 2, then 1.
+pub fn start_class(page: &[u32], c: u32) -> Class
+    ensures { λ r. ⌜ r ≡ startClass (now (page .entry)) c ⌝ }
+{
+    if is_accepted(page) {
+        if is_char(c) {
+            return Class::Is(is_basic_text_start(page, c));
+        }
+        return Class::Refused(1);
+    }
+    Class::Refused(2)
+}
+
+// Whether the character c may end a text. Total: refuses 1.
+pub fn end_class(c: u32) -> Class
+    ensures { λ r. ⌜ r ≡ endClass c ⌝ }
+{
+    if is_char(c) {
+        return Class::Is(is_basic_text_end(c));
+    }
+    Class::Refused(1)
+}
