@@ -11,6 +11,7 @@ pub enum Why {
     Byte,
     Many,
     Long,
+    Room,
 }
 
 // Writes out the bytes that wait.
@@ -78,10 +79,15 @@ pub fn list(out: &mut [u8], at: usize, numbers: &[u32]) -> usize {
     end
 }
 
-// The whole line of a refusal that carries nothing more: `no ` and its number, in decimal.
+// A refusal: `no ` and its number, in decimal.
+pub fn refusal(out: &mut [u8], at: usize, n: u32) -> usize {
+    let end = text(out, at, b"no ");
+    decimal(out, end, wide(n))
+}
+
+// The whole line of a refusal that carries nothing more.
 pub fn no(out: &mut [u8], at: usize, n: u32) -> usize {
-    let mut end = text(out, at, b"no ");
-    end = decimal(out, end, n as u64);
+    let end = refusal(out, at, n);
     byte(out, end, b'\n')
 }
 
@@ -93,5 +99,6 @@ pub fn refuse(out: &mut [u8], at: usize, why: Why) -> usize {
         Why::Byte => text(out, at, b"? byte\n"),
         Why::Many => text(out, at, b"? many\n"),
         Why::Long => text(out, at, b"? long\n"),
+        Why::Room => text(out, at, b"? room\n"),
     }
 }

@@ -6,6 +6,7 @@
 // it gives; page, the current page; places, for what an entry stores; and out, the answers that
 // wait to be written.
 mod answer;
+mod blank;
 mod current;
 mod front;
 mod leaves;

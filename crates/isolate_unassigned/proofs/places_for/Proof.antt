@@ -1,0 +1,15 @@
+-- `isolate_unassigned::places_for` meets its contract: its test is the case of `placesFor`.
+use Prim.Native.Nat.{ℕ, zero, suc, _+_, _*_}
+use mathlib.Core.Path.{_≡_, refl}
+use borrow.Author.Needs.{needs}
+use Rattle.isolate_unassigned.specs.Isolate.{placesFor}
+use Rattle.isolate_unassigned.proofs.places_for.Statement.{statement}
+use Rattle.isolate_unassigned.proofs.places_for.Tie as tie
+
+some : (n : ℕ) → (n ≡ 0 → ⊥) → 2 * n + 1 ≡ placesFor n
+some zero h = absurd (h refl)
+some (suc n) h = refl
+
+pub places-for-spec : {M : Type 1} → statement M
+places-for-spec =
+    tie.close (tie.spec (λ c. simp (c .if1 .taken)) (λ c. search needs) (λ c. search needs) (λ c. some _ (c .if1 .left)))

@@ -1,0 +1,82 @@
+-- Isolation as `internals/src/isolate_unassigned.rs` steps, and the entry on a run of characters (document 01, "Leaves"). 34F is CGJ.
+-- `isolate-means` (proofs/Means.antt) ties it to the words of the document, specs/Meaning.antt. Assumes nothing.
+use mathlib.Core.Bool.{Bool, false, not, cond, _&&_, _||_}
+use mathlib.Core.List.{List, [], _∷_, _++_}
+use Prim.Native.Nat.{ℕ, zero, suc, _+_, _*_}
+use lib.Dec.{leb, eqb}
+use lib.ListN.{length, drop}
+use Rattle.unicode.specs.Chars.{areChars}
+use Rattle.page.specs.Page.{assigned, accepted}
+use Rattle.text_utils.specs.Classes.{isPrivateUse}
+use Rattle.isolate_unassigned.specs.declared.Answer.{Answer}
+use Rattle.isolate_unassigned.specs.declared.Answer.the-variants.{Written, Refused}
+use Rattle.isolate_unassigned.specs.declared.IsolateUnassigned.{IsolateUnassigned}
+use Rattle.isolate_unassigned.specs.declared.Isolated.{Isolated}
+use Rattle.isolate_unassigned.specs.declared.Isolated.the-variants.{One, Two}
+
+-- "an unassigned character outside private use"
+unfoldable pub unassigned : List ℕ → ℕ → Bool
+unassigned p c = not (assigned p c || isPrivateUse c)
+
+-- ---- the record: `IsolateUnassigned`
+-- by its fields `need_cgj` and `have_cgj`
+abbrev pub recordOf : Bool → Bool → IsolateUnassigned
+recordOf need have = record { «need_cgj» = need; «have_cgj» = have }
+
+-- `new`
+abbrev pub fresh : IsolateUnassigned
+fresh = recordOf false false
+
+-- whether `next` puts 34F before a character c: one is owed and c is none, or c is unassigned and none stands before it
+abbrev pub puts : List ℕ → IsolateUnassigned → ℕ → Bool
+puts p r c = (r .«need_cgj» && not (eqb c 0x34F)) || (unassigned p c && not (r .«have_cgj»))
+
+-- `next` on a character
+unfoldable pub stepOf : List ℕ → IsolateUnassigned → ℕ → Isolated
+stepOf p r c = cond (puts p r c) (Two 0x34F c (recordOf (unassigned p c) false)) (One c (recordOf false (eqb c 0x34F)))
+
+-- what a step gives out
+abbrev pub given : Isolated → List ℕ
+given (One c next) = c ∷ []
+given (Two j c next) = j ∷ c ∷ []
+
+-- the record after it
+abbrev pub after : Isolated → IsolateUnassigned
+after (One c next) = next
+after (Two j c next) = next
+
+-- `next` with no character: the 34F that is owed
+abbrev pub finishOf : IsolateUnassigned → List ℕ
+finishOf r = cond (r .«need_cgj») (0x34F ∷ []) []
+
+-- ---- a run
+-- what the iterator gives for the characters cs, from a record on
+abbrev pub outs : List ℕ → IsolateUnassigned → List ℕ → List ℕ
+outs p r [] = finishOf r
+outs p r (c ∷ cs) = given (stepOf p r c) ++ outs p (after (stepOf p r c)) cs
+
+-- the run cs, isolated by the page p
+unfoldable pub isolateOf : List ℕ → List ℕ → List ℕ
+isolateOf p cs = outs p fresh cs
+
+-- "Isolating a run of n characters needs 2 × n + 1 places, an empty one none"
+abbrev pub placesFor : ℕ → ℕ
+placesFor zero = 0
+placesFor (suc n) = 2 * suc n + 1
+
+-- whether so many places are enough for the run
+abbrev pub enough : List ℕ → List ℕ → Bool
+enough cs out = leb (placesFor (length cs)) (length out)
+
+-- the answer, "order 2, 1, 8": 2 for a wrong page, 1 for a value that is no character, 8 for too few places, else how many were written
+abbrev pub isolateAnswer : List ℕ → List ℕ → List ℕ → Answer
+isolateAnswer p cs out =
+    cond (accepted p) (cond (areChars cs) (cond (enough cs out) (Written (length (isolateOf p cs))) (Refused 8)) (Refused 1)) (Refused 2)
+
+-- the places with ds in the first, and the others as they were
+abbrev pub filled : List ℕ → List ℕ → List ℕ
+filled ds out = ds ++ drop (length ds) out
+
+-- the places as isolation leaves them: unchanged by a refusal
+abbrev pub isolatePlaces : List ℕ → List ℕ → List ℕ → List ℕ
+isolatePlaces p cs out = cond (accepted p && (areChars cs && enough cs out)) (filled (isolateOf p cs) out) out
