@@ -1,7 +1,9 @@
 -- The classes at the characters on which all above them rests. Assumes nothing.
+--     one-char             being a character, as a range of one
 --     start-low            below 300 a start is a starter
---     start-marks          on every accepted page 0A, 20 and 34F are starts
---     end-marks            0A, 20 and 34F are ends
+--     end-low              below 600 every character is an end
+--     start-newline ..     on every accepted page 0A, 20 and 34F are starts
+--     end-newline ..       0A, 20 and 34F are ends
 use mathlib.Core.Path.{_≡_, refl, sym, _∙_}
 use mathlib.Core.Bool.{Bool, true, false, not, _&&_, _||_, and-true, and-false}
 use mathlib.Core.List.{List}
@@ -15,15 +17,15 @@ use Rattle.page.specs.Page.{accepted, nonstarter}
 use Rattle.page.proofs.PageLaws.{facts-of-accepted}
 use Rattle.text_utils.specs.Tables.{graphemeExtend, emojiModifier, spacingMark, spacingMarkExceptions}
 use Rattle.text_utils.specs.Classes.{has, starter, graphemeExtendNotCgj, spacingMarkPlus, basicTextStart, basicTextEnd}
-use Rattle.text_utils.proofs.Rising.{high-extend, high-emoji, high-spacing}
+use Rattle.text_utils.proofs.Rising.{high-extend, high-emoji, high-spacing, high-repha, high-prefixed, high-prepended}
 
--- being m, as a range of one character
 by-lt : {Q : Type 0} (a b : ℕ) → (a < b → Q) → (b ≤ a → Q) → Q
 by-lt {Q} a b f g = go (ltb a b) refl where
   go : (t : Bool) → ltb a b ≡ t → Q
   go true e = f (ltb-true a b e)
   go false e = g (ltb-false a b e)
 
+-- being m, as a range of one character
 pub one-char : (m c : ℕ) → leb m c && leb c m ≡ eqb c m
 one-char m c =
     by-lt c m (λ h. simp (lt-leb m c h, ne-eqb c m (λ e. omega arith)))
@@ -43,6 +45,16 @@ start-low p c h =
       and-true,
     )
 
+pub end-low : (c : ℕ) → c < 0x600 → true ≡ basicTextEnd c
+unfolding basicTextEnd
+end-low c h =
+    simp (
+      ne-eqb c 0x200d (λ e. omega arith),
+      member-below 0x600 _ _ high-repha c h,
+      member-below 0x600 _ _ high-prefixed c h,
+      member-below 0x600 _ _ high-prepended c h,
+    )
+
 module _ (p : List ℕ) (a : accepted p ≡ true) where
   pub start-newline : basicTextStart p 0xa ≡ true
   unfolding starter
@@ -57,13 +69,10 @@ module _ (p : List ℕ) (a : accepted p ≡ true) where
   start-joiner = simp (facts-of-accepted p a .nonstarter-34f)
 
 pub end-newline : basicTextEnd 0xa ≡ true
-unfolding basicTextEnd member
-end-newline = refl
+end-newline = sym (end-low 0xa (omega arith))
 
 pub end-space : basicTextEnd 0x20 ≡ true
-unfolding basicTextEnd member
-end-space = refl
+end-space = sym (end-low 0x20 (omega arith))
 
 pub end-joiner : basicTextEnd 0x34f ≡ true
-unfolding basicTextEnd member
-end-joiner = refl
+end-joiner = sym (end-low 0x34f (omega arith))

@@ -3,6 +3,7 @@
 --     TABLE-rises                        what `in_ranges` asks of the table
 --     no-cgj, no-cgj-rises               Grapheme_Extend without CGJ
 --     as-in-rust, as-in-rust-rises       Prepended_Concatenation_Mark without 890 and 891
+--     high-TABLE                         the table has no character below 300, or below 600
 use mathlib.Core.Path.{_≡_, refl}
 use mathlib.Core.Bool.{true}
 use mathlib.Core.List.{List}
@@ -65,3 +66,16 @@ high-emoji = refl
 pub high-spacing : Rises 0x300 spacingMark
 unfolding rises
 high-spacing = refl
+
+-- nor has one that an end is tested by a character below 600
+pub high-repha : Rises 0x600 consonantPrecedingRepha
+unfolding rises
+high-repha = refl
+
+pub high-prefixed : Rises 0x600 consonantPrefixed
+unfolding rises
+high-prefixed = refl
+
+pub high-prepended : Rises 0x600 prependedConcatenationMark
+unfolding rises
+high-prepended = refl

@@ -123,14 +123,24 @@ fn prepended_concatenation_mark(c: u32) -> bool
     )
 }
 
-// Whether c may end a text. Total: any number.
-pub fn is_basic_text_end(c: u32) -> bool
+// `is_basic_text_end` by the tables. Total: any number.
+fn is_end_by_tables(c: u32) -> bool
     ensures { λ r. ⌜ r ≡ basicTextEnd c ⌝ }
 {
     (c != ZWJ)
         & !indic_syllabic_category_consonant_preceding_repha(c)
         & !indic_syllabic_category_consonant_prefixed(c)
         & !prepended_concatenation_mark(c)
+}
+
+// Whether c may end a text. No table has a character below 600, so these are ends. Total: any number.
+pub fn is_basic_text_end(c: u32) -> bool
+    ensures { λ r. ⌜ r ≡ basicTextEnd c ⌝ }
+{
+    if c < 0x600 {
+        return true;
+    }
+    is_end_by_tables(c)
 }
 
 // Whether c lies in a private-use area. Total: any number.

@@ -1,0 +1,45 @@
+//! The generated files of the crate `text_utils`. The folders are those of the original's sources, of Unicode's data and
+//! of the crate.
+//!
+//!     tables src SOURCES DATA CRATE      writes src/tables.rt
+//!     tables specs SOURCES DATA CRATE    writes specs/Tables.antt
+//!     tables check SOURCES DATA CRATE    compares both with the crate's files, and the sources with each other
+
+use harness::tables::{check, files, ORIGINAL};
+use std::path::Path;
+use std::process::ExitCode;
+use std::{env, fs};
+
+fn main() -> ExitCode {
+    let words: Vec<String> = env::args().skip(1).collect();
+    let [what, sources, data, package] = words.as_slice() else {
+        return usage();
+    };
+    let made = match what.as_str() {
+        "src" => original(sources).and_then(|text| files::src(&text)),
+        "specs" => files::specs(Path::new(data)),
+        "check" => original(sources).and_then(|text| check::check(&text, Path::new(data), Path::new(package))),
+        _ => return usage(),
+    };
+    match made {
+        Ok(text) => {
+            print!("{text}");
+            ExitCode::SUCCESS
+        }
+        Err(fault) => {
+            eprintln!("harness/tables: {fault}");
+            ExitCode::FAILURE
+        }
+    }
+}
+
+fn usage() -> ExitCode {
+    eprintln!("usage: tables src|specs|check SOURCES DATA CRATE");
+    ExitCode::from(2)
+}
+
+/// The text of the original's file.
+fn original(sources: &str) -> Result<String, String> {
+    let path = Path::new(sources).join(ORIGINAL);
+    fs::read_to_string(&path).map_err(|error| format!("{}: {error}", path.display()))
+}

@@ -1,0 +1,67 @@
+//! What the scripts of calls draw from: characters that matter to the scanner and the writer, values that are no
+//! characters, pages, and numbers of places.
+
+use super::{page_line, pages, real_page_line};
+use crate::page::numbers;
+use crate::random::Random;
+
+/// Values that are no characters, at the edges.
+pub const NO_CHARACTERS: [u32; 5] = [0xD800, 0xDFFF, 0x110000, 0x8000_0000, 0xFFFF_FFFF];
+
+/// Line ends, page runs, the parts of escapes, replaced and refused characters, nonstarters, marks, unassigned ones.
+const CHARACTERS: [u32; 44] = [
+    0x61, 0x0A, 0x0D, 0x0C, 0x1B, 0x5B, 0x5D, 0x07, 0x18, 0x31, 0x6D, 0x48, 0x20, 0xE9, 0x301, 0x200D, 0xFB03, 0x2028,
+    0x2029, 0x85, 0xFEFF, 0x2126, 0x378, 0x379, 0x34F, 0x600, 0x903, 0x1F3FB, 0x10FFFF, 0x7F, 0x40, 0x3F, 0x7E, 0x09,
+    0x1A, 0x00, 0x5C, 0x80, 0xE000, 0xFB05, 0x17B4, 0x206A, 0x111C4, 0xF900,
+];
+
+/// One of the characters that matter; now and then any character.
+pub fn character(random: &mut Random) -> u32 {
+    match random.below(40) {
+        0 => random.between(0, 0xD7FF),
+        1 => random.between(0xE000, 0x10FFFF),
+        2 => random.between(0, 0xA0),
+        _ => random.pick(&CHARACTERS),
+    }
+}
+
+/// A run of fewer than `most` values, now and then with one that is no character.
+pub fn run(random: &mut Random, most: usize) -> Vec<u32> {
+    let length = random.below(most);
+    let mut values: Vec<u32> = (0..length).map(|_| character(random)).collect();
+    if length > 0 && random.once_in(50) {
+        values[random.below(length)] = random.pick(&NO_CHARACTERS);
+    }
+    values
+}
+
+/// A page: that of the start, one that is right, seldom one that is wrong or the real one.
+pub fn page(random: &mut Random) -> String {
+    match random.below(16) {
+        0 => page_line(&[0, 0]),
+        1 => real_page_line(),
+        2..=4 => "P 0 1 0 377".to_owned(),
+        // 1A unassigned; 61 a nonstarter; marks nonstarters and all assigned; little assigned.
+        5 => "P 0 2 0 1b 19 377".to_owned(),
+        6 => "P 1 1 61 0 61 377".to_owned(),
+        7..=10 => "P 2 1 300 370 0 34e 3ff 10ffff".to_owned(),
+        11 => "P 0 2 a 34f a 34f".to_owned(),
+        _ => {
+            let (nonstarters, assigned) = pages::random_right(random);
+            page_line(&numbers(&nonstarters, &assigned))
+        }
+    }
+}
+
+/// A number of places around what is needed: mostly enough.
+pub fn room(random: &mut Random, needed: usize) -> u32 {
+    let room = match random.below(24) {
+        0 => 0,
+        1 | 2 => needed.saturating_sub(1),
+        3 => needed / 2,
+        4..=14 => needed,
+        15 => needed + 1,
+        _ => needed + random.below(40),
+    };
+    room as u32
+}

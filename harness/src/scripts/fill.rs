@@ -1,0 +1,52 @@
+//! Filling: buffers around 136 bytes with continuation bytes in them, queues that just fit and that do not.
+
+use super::{alphabet, operation, utf8};
+use crate::random::Random;
+
+/// Beforehand: continuation bytes, leads and others, in an order that stops the zeroing early or late.
+const PATTERNS: [&str; 9] = ["00", "80", "bf", "ff", "61", "8061", "80bfc0", "8080808080808061", "c3a9"];
+
+pub fn script(random: &mut Random, count: usize) -> Vec<String> {
+    (0..count).map(|_| call(random)).collect()
+}
+
+fn call(random: &mut Random) -> String {
+    let length = match random.below(8) {
+        0 => random.pick(&[0, 1, 4, 134, 135, 135]),
+        1 | 2 => 136,
+        _ => random.between(136, 150),
+    };
+    let queue = queue(random, length as usize);
+    operation(&format!("F {length:x} {}", random.pick(&PATTERNS)), queue)
+}
+
+/// Characters of one length or of all, few or about as many as fit.
+fn queue(random: &mut Random, room: usize) -> Vec<u32> {
+    let kind = random.below(6);
+    let most = match kind {
+        0 => room / 4 + 4,
+        1 => room / 3 + 4,
+        2 => room / 2 + 4,
+        3 => room + 4,
+        4 => room / 2,
+        _ => 10,
+    };
+    let length = if random.once_in(3) { random.below(most) } else { most - random.below(most.min(8)) };
+    let mut values: Vec<u32> = (0..length)
+        .map(|_| match kind {
+            0 => 0x1F600,
+            1 => 0x20AC,
+            2 => 0xE9,
+            3 => 0x61,
+            _ => u32::from(utf8::character(random)),
+        })
+        .collect();
+    if length > 0 && random.once_in(20) {
+        values[random.below(length)] = random.pick(&[0xD800, 0xDFFF, 0x110000, 0xFFFF_FFFF]);
+    }
+    if random.once_in(10) {
+        values.truncate(4);
+        values.extend(alphabet::run(random, 9));
+    }
+    values
+}

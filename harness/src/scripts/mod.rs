@@ -1,0 +1,76 @@
+//! Scripts of the replay protocol, made from a seed: one kind of script to a module.
+
+mod alphabet;
+pub mod cases;
+pub mod every;
+pub mod fill;
+pub mod isolate;
+pub mod leaves;
+pub mod pages;
+pub mod sample;
+pub mod scan;
+pub mod utf8;
+pub mod write;
+
+use crate::page::{numbers, real};
+use crate::random::Random;
+
+/// The kinds of script.
+pub const KINDS: [&str; 10] =
+    ["cases", "pages", "utf8", "leaves", "every", "isolate", "scan", "fill", "write", "sample"];
+
+/// The lines of a script.
+pub type Lines = Box<dyn Iterator<Item = String>>;
+
+/// `count` operations of a kind; none if there is no such kind. `cases` is whole whatever the count, in `every` the count
+/// is a step, one character in so many, and in `sample` it is that of the random ones.
+pub fn script(kind: &str, seed: u64, count: usize) -> Option<Lines> {
+    if kind == "every" {
+        return Some(Box::new(every::script(seed, count)));
+    }
+    drawn(kind, seed, count).map(|lines| Box::new(lines.into_iter()) as Lines)
+}
+
+/// The kinds that are made as a whole.
+fn drawn(kind: &str, seed: u64, count: usize) -> Option<Vec<String>> {
+    let mut random = Random::new(seed);
+    let random = &mut random;
+    let lines = match kind {
+        "cases" => cases::script(),
+        "pages" => pages::script(random, count),
+        "utf8" => utf8::script(random, count),
+        "leaves" => leaves::script(random, count),
+        "isolate" => isolate::script(random, count),
+        "scan" => scan::script(random, count),
+        "fill" => fill::script(random, count),
+        "write" => write::script(random, count),
+        "sample" => sample::script(random, count),
+        _ => return None,
+    };
+    Some(lines)
+}
+
+/// The operation of a page.
+pub fn page_line(numbers: &[u32]) -> String {
+    operation("P", numbers.iter().copied())
+}
+
+/// The operation of the real page.
+pub fn real_page_line() -> String {
+    let (nonstarters, assigned) = real();
+    page_line(&numbers(nonstarters, assigned))
+}
+
+/// The operation that decodes bytes.
+pub fn utf8_line(bytes: &[u8]) -> String {
+    operation("L utf8", bytes.iter().copied().map(u32::from))
+}
+
+/// Words, then numbers.
+pub fn operation(words: &str, numbers: impl IntoIterator<Item = u32>) -> String {
+    let mut line = words.to_owned();
+    for number in numbers {
+        line.push_str(&format!(" {number:x}"));
+    }
+    line
+}

@@ -1,0 +1,135 @@
+//! Lists of calls on a writer in each mode: characters and bytes, escapes up to their limit, refusals and what stays
+//! kept after them, false claims of held characters. The oracle runs along, so that rooms stand at what is needed.
+
+use super::{alphabet, operation, utf8};
+use crate::leaves::valid_prefix;
+use crate::random::Random;
+use crate::replay::Oracle;
+
+/// Characters that a writer takes, and one that it refuses.
+const GOOD: [u32; 17] =
+    [0x61, 0x61, 0x0A, 0x0A, 0x20, 0xE9, 0x301, 0x200D, 0x600, 0x378, 0x34F, 0x09, 0x6D, 0x903, 0xE000, 0x1F3FB, 0x7F];
+
+/// What the script knows of the writer.
+#[derive(Default)]
+struct Known {
+    /// Its mode is color.
+    color: bool,
+    /// It claims what it cannot have.
+    claims: bool,
+    /// The kept and the held characters.
+    needed: usize,
+}
+
+pub fn script(random: &mut Random, count: usize) -> Vec<String> {
+    let mut oracle = Oracle::new(false);
+    let mut known = Known::default();
+    let mut lines = Vec::new();
+    while lines.len() < count {
+        let line = call(random, &known);
+        let answer = oracle.answer(&line).unwrap_or_default();
+        known.learn(&line, &answer);
+        lines.push(line);
+    }
+    lines
+}
+
+impl Known {
+    fn learn(&mut self, line: &str, answer: &str) {
+        if line.starts_with("W new") {
+            self.color = line.ends_with("color");
+        }
+        if answer.starts_with("held") {
+            self.claims = !line.ends_with('-');
+        } else if line.starts_with("W new") || line == "W abandon" {
+            self.claims = false;
+        }
+        if !self.claims {
+            self.needed = kept_and_held(answer).unwrap_or(self.needed);
+        }
+    }
+}
+
+/// The sum of the two counts at the end of an answer.
+fn kept_and_held(answer: &str) -> Option<usize> {
+    let count = |name: &str| {
+        let (_, after) = answer.split_once(name)?;
+        usize::from_str_radix(after.split(' ').next()?, 16).ok()
+    };
+    Some(count("kept=")? + count("held=")?)
+}
+
+fn call(random: &mut Random, known: &Known) -> String {
+    if known.claims && random.once_in(3) {
+        return random.pick(&["W held -", "W held -", "W abandon"]).to_owned();
+    }
+    match random.below(60) {
+        0..=2 => format!("W new {}", random.pick(&["plain", "crlf", "bom", "color", "color"])),
+        3 => alphabet::page(random),
+        4..=10 => "W flush".to_owned(),
+        11..=13 => "W close".to_owned(),
+        14 => "W abandon".to_owned(),
+        15 => format!("W places {:x}", random.below(12)),
+        16 => claim(random),
+        17..=25 => bytes(random, known),
+        _ => characters(random, known),
+    }
+}
+
+/// A claim that no state can have, or that only another state can.
+fn claim(random: &mut Random) -> String {
+    format!("W held {:x}", random.pick(&[0, 1, 2, 64, 65, 66, 0x5555_5556, 0x8000_0000, 0xFFFF_FFFFu32]))
+}
+
+fn characters(random: &mut Random, known: &Known) -> String {
+    let text = text(random, known);
+    let room = alphabet::room(random, known.needed + 3 * text.len());
+    operation("W chars", std::iter::once(room).chain(text))
+}
+
+fn text(random: &mut Random, known: &Known) -> Vec<u32> {
+    let escapes = if known.color { 5 } else { 1 };
+    match random.below(9 + escapes) {
+        0 => alphabet::run(random, 8),
+        1 => vec![0x0A],
+        2 => [plain(random), vec![0x0A]].concat(),
+        3 => [plain(random), vec![random.pick(&[0x200D, 0x600, 0x6DD, 0x110BD])]].concat(),
+        4..=8 => plain(random),
+        9 => [plain(random), escape(random), plain(random)].concat(),
+        _ => escape(random),
+    }
+}
+
+fn plain(random: &mut Random) -> Vec<u32> {
+    (0..random.below(6)).map(|_| random.pick(&GOOD)).collect()
+}
+
+/// A color escape: whole, a part of one, or one at its limit.
+fn escape(random: &mut Random) -> Vec<u32> {
+    let inside = match random.below(3) {
+        0 => 58 + random.below(8),
+        1 => 30 + random.below(3),
+        _ => random.below(4),
+    };
+    let parts = [0x20, 0x2F, 0x30, 0x3B, 0x3F];
+    let start: &[u32] = random.pick(&[&[0x1B, 0x5B][..], &[0x1B, 0x5B], &[0x1B, 0x5B], &[0x1B], &[0x5B], &[]]);
+    let end: &[u32] =
+        random.pick(&[&[0x6D][..], &[0x6D], &[0x6D], &[], &[], &[0x40], &[0x0A], &[0x7F], &[0x378], &[0x1B]]);
+    let middle: Vec<u32> = (0..inside).map(|_| random.pick(&parts)).collect();
+    [start, &middle, end].concat()
+}
+
+fn bytes(random: &mut Random, known: &Known) -> String {
+    let text: String = text(random, known).into_iter().filter_map(char::from_u32).collect();
+    let mut bytes = text.into_bytes();
+    match random.below(6) {
+        0 => bytes.extend(utf8::random_bytes(random)),
+        1 => bytes.truncate(random.below(bytes.len() + 1)),
+        2 => bytes = utf8::random_bytes(random),
+        3 => bytes.push(0xFF),
+        _ => {}
+    }
+    let count = valid_prefix(&bytes).chars().count();
+    let room = alphabet::room(random, known.needed + 3 * count);
+    operation("W bytes", std::iter::once(room).chain(bytes.into_iter().map(u32::from)))
+}
