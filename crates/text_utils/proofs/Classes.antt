@@ -9,8 +9,9 @@ use mathlib.Core.Bool.{Bool, true, false, not, _&&_, _||_, and-true, and-false}
 use mathlib.Core.List.{List}
 use Prim.Native.Nat.{ℕ, _≤_, _<_}
 use native.Mathlib.Omega.{arith}
-use lib.Dec.{leb, ltb, eqb}
-use borrow.Author.Tests.{eq-eqb, ne-eqb, le-leb, lt-leb, ltb-true, ltb-false}
+use lib.Dec.{leb, eqb}
+use borrow.Author.Tests.{eq-eqb, ne-eqb, le-leb, lt-leb}
+use Rattle.unicode.proofs.Kit.{by-lt}
 use Rattle.ranges.specs.Ranges.{member}
 use Rattle.ranges.proofs.Laws.{member-below}
 use Rattle.page.specs.Page.{accepted, nonstarter}
@@ -18,12 +19,6 @@ use Rattle.page.proofs.PageLaws.{facts-of-accepted}
 use Rattle.text_utils.specs.Tables.{graphemeExtend, emojiModifier, spacingMark, spacingMarkExceptions}
 use Rattle.text_utils.specs.Classes.{has, starter, graphemeExtendNotCgj, spacingMarkPlus, basicTextStart, basicTextEnd}
 use Rattle.text_utils.proofs.Rising.{high-extend, high-emoji, high-spacing, high-repha, high-prefixed, high-prepended}
-
-by-lt : {Q : Type 0} (a b : ℕ) → (a < b → Q) → (b ≤ a → Q) → Q
-by-lt {Q} a b f g = go (ltb a b) refl where
-  go : (t : Bool) → ltb a b ≡ t → Q
-  go true e = f (ltb-true a b e)
-  go false e = g (ltb-false a b e)
 
 -- being m, as a range of one character
 pub one-char : (m c : ℕ) → leb m c && leb c m ≡ eqb c m
