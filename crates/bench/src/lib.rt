@@ -1,0 +1,133 @@
+// Sums over lent slices, one for each leaf: what the benchmark calls, exported for Rust. They are proved safe and promise
+// nothing more: what they call has its contract, and the benchmark compares the sums with the Rust's.
+use check_char::Checked;
+use check_char::check_basic_text_char;
+use isolate_unassigned::Answer;
+use isolate_unassigned::isolate;
+use page::is_accepted;
+use replace::Replaced;
+use replace::replace;
+use text_utils::is_basic_text_end;
+use text_utils::is_basic_text_start;
+use unicode::valid_prefix;
+ghost use mathlib.Core.Path.{_≡_};
+ghost use mathlib.Core.Bool.{true};
+ghost use Rattle.page.specs.Page.{accepted};
+
+// 1 for an end, else 0.
+fn one_end(c: u32) -> u32 {
+    if is_basic_text_end(c) {
+        return 1;
+    }
+    0
+}
+
+// 1 for a start, else 0. Inner: asks for an accepted page.
+fn one_start(page: &[u32], c: u32) -> u32
+    requires { ⌜ accepted (now page) ≡ true ⌝ }
+{
+    if is_basic_text_start(page, c) {
+        return 1;
+    }
+    0
+}
+
+// The sum of the characters that replace c.
+fn one_replace(c: u32) -> u32 {
+    let r = replace(c);
+    match r {
+        Replaced::One(a) => a,
+        Replaced::Two(a, b) => std::num::wrapping_add_u32(a, b),
+        Replaced::Three(a, b, d) => std::num::wrapping_add_u32(std::num::wrapping_add_u32(a, b), d),
+    }
+}
+
+// 1 for a character that the check accepts, else 0.
+fn one_check(c: u32) -> u32 {
+    let r = check_basic_text_char(c);
+    if let Checked::Ok = r {
+        return 1;
+    }
+    0
+}
+
+// How many of the characters are ends.
+#[no_mangle]
+pub extern "C" fn bench_end(cs: &[u32]) -> u32 {
+    let mut sum: u32 = 0;
+    let mut i = 0;
+    while i < cs.len() {
+        sum = std::num::wrapping_add_u32(sum, one_end(cs[i]));
+        i += 1;
+    }
+    sum
+}
+
+// How many of the characters are starts. Inner: asks for an accepted page.
+fn starts(page: &[u32], cs: &[u32]) -> u32
+    requires { ⌜ accepted (now page) ≡ true ⌝ }
+{
+    let mut sum: u32 = 0;
+    let mut i = 0;
+    while i < cs.len() {
+        sum = std::num::wrapping_add_u32(sum, one_start(page, cs[i]));
+        i += 1;
+    }
+    sum
+}
+
+// How many of the characters are starts; 0 where the page is not accepted.
+#[no_mangle]
+pub extern "C" fn bench_start(page: &[u32], cs: &[u32]) -> u32 {
+    if is_accepted(page) {
+        return starts(page, cs);
+    }
+    0
+}
+
+// The sum of all that replaces the characters.
+#[no_mangle]
+pub extern "C" fn bench_replace(cs: &[u32]) -> u32 {
+    let mut sum: u32 = 0;
+    let mut i = 0;
+    while i < cs.len() {
+        sum = std::num::wrapping_add_u32(sum, one_replace(cs[i]));
+        i += 1;
+    }
+    sum
+}
+
+// How many of the characters the check accepts.
+#[no_mangle]
+pub extern "C" fn bench_check(cs: &[u32]) -> u32 {
+    let mut sum: u32 = 0;
+    let mut i = 0;
+    while i < cs.len() {
+        sum = std::num::wrapping_add_u32(sum, one_check(cs[i]));
+        i += 1;
+    }
+    sum
+}
+
+// How many places of out a run is isolated into; 0 where it is refused.
+#[no_mangle]
+pub extern "C" fn bench_isolate(page: &[u32], cs: &[u32], out: &mut [u32]) -> usize {
+    let answer = isolate(page, cs, out);
+    match answer {
+        Answer::Written(n) => n,
+        Answer::Refused(_) => 0,
+    }
+}
+
+// Whether the page is accepted.
+#[no_mangle]
+pub extern "C" fn bench_page(page: &[u32]) -> bool {
+    is_accepted(page)
+}
+
+// How many bytes the longest valid prefix has.
+#[no_mangle]
+pub extern "C" fn bench_prefix(bytes: &[u8]) -> usize {
+    let p = valid_prefix(bytes);
+    p.bytes
+}

@@ -1,0 +1,67 @@
+//! The characters that are timed, equal in every run.
+
+use harness::random::Random;
+
+/// So many characters are timed at once.
+pub const CHUNK: usize = 4096;
+
+/// So many chunks has an input.
+const CHUNKS: usize = 16;
+
+const ASCII: &str = "The quick brown fox jumps over the lazy dog, and then (at 10:45) it sleeps; let x = 42; \
+    https://example.org/a?b=c A text of plain letters, digits 0123456789 and signs.";
+
+const LATIN: &str = "Portez ce vieux whisky au juge blond qui fume sur son île intérieure, à côté de l'alcôve ovoïde. \
+    Zwölf Boxkämpfer jagen Viktor quer über den großen Sylter Deich. Pchnąć w tę łódź jeża lub ośm skrzyń fig. \
+    Příliš žluťoučký kůň úpěl ďábelské ódy. El pingüino añoraba a su querido cachorro. Árvíztűrő tükörfúrógép.";
+
+const DEVANAGARI: &str = "सभी मनुष्यों को गौरव और अधिकारों के मामले में जन्मजात स्वतन्त्रता और समानता प्राप्त है। उन्हें बुद्धि और \
+    अन्तरात्मा की देन प्राप्त है और परस्पर उन्हें भाईचारे के भाव से बर्ताव करना चाहिए।";
+
+/// The inputs with their names.
+pub fn inputs() -> [(&'static str, Vec<char>); 5] {
+    let random = &mut Random::new(5);
+    [
+        ("ASCII", words(random, ASCII)),
+        ("Latin", words(random, LATIN)),
+        ("CJK", characters(|| cjk(random))),
+        ("Devanagari", words(random, DEVANAGARI)),
+        ("random", characters(|| between(random, 0, 0x10FFFF))),
+    ]
+}
+
+/// Words of a text in random order, with a line end now and then.
+fn words(random: &mut Random, text: &str) -> Vec<char> {
+    let list: Vec<&str> = text.split_whitespace().collect();
+    let mut chars = Vec::new();
+    while chars.len() < CHUNK * CHUNKS {
+        chars.extend(random.pick(&list).chars());
+        chars.push(if random.once_in(60) { '\n' } else { ' ' });
+    }
+    chars.truncate(CHUNK * CHUNKS);
+    chars
+}
+
+fn characters(mut next: impl FnMut() -> char) -> Vec<char> {
+    (0..CHUNK * CHUNKS).map(|_| next()).collect()
+}
+
+/// Most are ideographs; some are kana, Hangul and signs.
+fn cjk(random: &mut Random) -> char {
+    match random.below(20) {
+        0 => '。',
+        1 => '、',
+        2..=6 => between(random, 0x3041, 0x3093),
+        7 => between(random, 0xAC00, 0xD7A3),
+        _ => between(random, 0x4E00, 0x9FA5),
+    }
+}
+
+/// A character from `low` to `high`.
+fn between(random: &mut Random, low: u32, high: u32) -> char {
+    loop {
+        if let Some(c) = char::from_u32(random.between(low, high)) {
+            return c;
+        }
+    }
+}

@@ -1,0 +1,59 @@
+//! The port's functions: the exports of the crate `bench` as safe functions.
+
+// A lent slice crosses as its first place and its length; nothing is kept after the call. Each function is proved total:
+// it reads only the places that are lent to it.
+mod linked {
+    extern "C" {
+        /// How many of the characters are ends.
+        pub fn bench_end(chars: *const u32, count: usize) -> u32;
+        /// How many of the characters are starts by the page; 0 where the page is not accepted.
+        pub fn bench_start(page: *const u32, size: usize, chars: *const u32, count: usize) -> u32;
+        /// The sum of all that replaces the characters.
+        pub fn bench_replace(chars: *const u32, count: usize) -> u32;
+        /// How many of the characters the check accepts.
+        pub fn bench_check(chars: *const u32, count: usize) -> u32;
+        /// Writes the isolated run to the places from `out` on, which nothing else has: how many, or 0 for a refusal.
+        pub fn bench_isolate(
+            page: *const u32,
+            size: usize,
+            chars: *const u32,
+            count: usize,
+            out: *mut u32,
+            room: usize,
+        ) -> usize;
+        /// Whether the page is accepted.
+        pub fn bench_page(page: *const u32, size: usize) -> bool;
+        /// How many bytes the longest valid prefix has.
+        pub fn bench_prefix(bytes: *const u8, count: usize) -> usize;
+    }
+}
+
+pub fn end(chars: &[u32]) -> u32 {
+    unsafe { linked::bench_end(chars.as_ptr(), chars.len()) }
+}
+
+pub fn start(page: &[u32], chars: &[u32]) -> u32 {
+    unsafe { linked::bench_start(page.as_ptr(), page.len(), chars.as_ptr(), chars.len()) }
+}
+
+pub fn replace(chars: &[u32]) -> u32 {
+    unsafe { linked::bench_replace(chars.as_ptr(), chars.len()) }
+}
+
+pub fn check(chars: &[u32]) -> u32 {
+    unsafe { linked::bench_check(chars.as_ptr(), chars.len()) }
+}
+
+pub fn isolate(page: &[u32], chars: &[u32], out: &mut [u32]) -> usize {
+    unsafe {
+        linked::bench_isolate(page.as_ptr(), page.len(), chars.as_ptr(), chars.len(), out.as_mut_ptr(), out.len())
+    }
+}
+
+pub fn page(page: &[u32]) -> bool {
+    unsafe { linked::bench_page(page.as_ptr(), page.len()) }
+}
+
+pub fn prefix(bytes: &[u8]) -> usize {
+    unsafe { linked::bench_prefix(bytes.as_ptr(), bytes.len()) }
+}

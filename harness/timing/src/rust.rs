@@ -1,0 +1,40 @@
+//! The same sums by the Rust: the original's functions and the standard library's.
+
+use harness::page::Page;
+use harness::{check_basic_text_char, is_basic_text_end, is_basic_text_start, PreNormalization};
+use std::collections::VecDeque;
+
+pub fn end(chars: &[char]) -> u32 {
+    chars.iter().map(|c| u32::from(is_basic_text_end(*c))).sum()
+}
+
+pub fn start(chars: &[char]) -> u32 {
+    chars.iter().map(|c| u32::from(is_basic_text_start(*c))).sum()
+}
+
+/// The queue is the one that the original appends to, and has room already.
+pub fn replace(chars: &[char], queue: &mut VecDeque<char>) -> u32 {
+    queue.clear();
+    for c in chars {
+        harness::replace(*c, queue);
+    }
+    queue.iter().fold(0, |sum: u32, c| sum.wrapping_add(u32::from(*c)))
+}
+
+pub fn check(chars: &[char]) -> u32 {
+    chars.iter().map(|c| u32::from(check_basic_text_char(*c).is_ok())).sum()
+}
+
+pub fn isolate(chars: &[char], out: &mut [u32]) -> usize {
+    let isolated = chars.iter().copied().isolate_unassigned();
+    out.iter_mut().zip(isolated).map(|(place, c)| *place = u32::from(c)).count()
+}
+
+/// Document 01's acceptance as the harness has it: the original has no page.
+pub fn page(page: &[u32]) -> bool {
+    Page::read(page).is_some()
+}
+
+pub fn prefix(bytes: &[u8]) -> usize {
+    std::str::from_utf8(bytes).map_or_else(|error| error.valid_up_to(), str::len)
+}
