@@ -4,7 +4,8 @@
 --                           ideograph that the check lists; and is no ESC
 --     replaced-chars        what replaces a character are characters, one to three
 --     self-newline ..       0A, 20, 34F and ESC are their own replacement
---     accepted-newline ..   0A, 20 and 34F are accepted; 1A is refused, as a control code
+--     accepted-newline ..   0A, 20, 34F and ESC are accepted; 1A is refused, as a control code
+--     ohm-names-itself      reason 16 for 2126 names 2126 itself
 use Prim.Native.Nat.{ℕ, _≤_, _<_}
 use mathlib.Core.Path.{_≡_, refl}
 use mathlib.Core.Bool.{Bool, true, false, not, _&&_, _||_}
@@ -18,7 +19,7 @@ use Rattle.replace.specs.declared.Replaced.the-variants.{One, Two, Three}
 use Rattle.replace.specs.Table.{any}
 use Rattle.replace.specs.Replace.{chars, replaceOf, replacements}
 use Rattle.replace.proofs.Rows.{Piece, _until_, At, here, there, null, not-null, passes, finds, uncovered, covered, or-r, and-i, any-finds, other}
-use Rattle.check_char.specs.Check.{kept, refusals, reasonOf}
+use Rattle.check_char.specs.Check.{kept, refusals, reasonOf, checkNumbers}
 
 -- x is accepted, or one of those that the check lists though nothing replaces them; and is no ESC
 abbrev pub clean : ℕ → Bool
@@ -113,3 +114,11 @@ accepted-joiner = refl
 pub refused-substitute : reasonOf 0x1a ≡ 2
 unfolding reasonOf
 refused-substitute = refl
+
+pub accepted-escape : reasonOf 0x1b ≡ 0
+unfolding reasonOf
+accepted-escape = refl
+
+pub ohm-names-itself : checkNumbers 0x2126 ≡ 16 ∷ 0x2126 ∷ 1 ∷ 0x2126 ∷ 0 ∷ 0 ∷ []
+unfolding checkNumbers reasonOf replaceOf
+ohm-names-itself = refl
