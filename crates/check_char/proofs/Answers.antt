@@ -13,6 +13,7 @@ use Rattle.unicode.specs.Chars.{isChar}
 use Rattle.replace.proofs.Rows.{any-finds}
 use Rattle.check_char.specs.declared.BasicTextError.{BasicTextError}
 use Rattle.check_char.specs.declared.BasicTextError.the-variants.{ColorEscapeSequence, ControlCode, DeprecatedFormatChar, Escape, BidiFormatChar, Interlinear, LanguageTag, LineSeparation, NonChar, ParaSeparation, UnneededBOM, OutOfBand, Omit, Beyyal, UnrecognizedEscape, Replacement}
+use Rattle.check_char.specs.declared.Categorize.{Categorize}
 use Rattle.check_char.specs.declared.Checked.{Checked}
 use Rattle.check_char.specs.declared.Checked.the-variants.{Ok, Err}
 use Rattle.check_char.specs.Check.{refusals, reasonOf, errorNumbers, reasonNumbers, carried, checkNumbers, checkAnswer, categorizeOf}
@@ -68,8 +69,8 @@ module _ (c : ℕ) (r : Checked) (says-so : reasonNumbers r ≡ checkNumbers c) 
   pub answer-refused : (e : BasicTextError) → r ≡ Err e → isChar c ≡ true → 4 ∷ errorNumbers e ≡ checkAnswer c
   answer-refused e q p = simp (p, refused e q) (ap (λ (l : List ℕ). 4 ∷ l) (rw q at says-so))
 
-  pub category-kept : r ≡ Ok → c ∷ [] ≡ categorizeOf c
-  category-kept e = simp (accepted e)
+  pub category-kept : (s : Categorize) → r ≡ Ok → 0 ∷ c ∷ reasonNumbers (s .error) ≡ categorizeOf s c
+  category-kept s e = simp (accepted e)
 
-  pub category-refused : (e : BasicTextError) → r ≡ Err e → 0x1a ∷ reasonNumbers r ≡ categorizeOf c
-  category-refused e q = simp (refused e q) (ap (λ (l : List ℕ). 0x1a ∷ l) says-so)
+  pub category-refused : (s : Categorize) (e : BasicTextError) → r ≡ Err e → 4 ∷ 0x1a ∷ reasonNumbers r ≡ categorizeOf s c
+  category-refused s e q = simp (refused e q) (ap (λ (l : List ℕ). 4 ∷ 0x1a ∷ l) says-so)

@@ -1,6 +1,6 @@
--- Which characters are refused, and why: `check_basic_text_char` of internals/src/check.rs, arm by arm in its order. "4 a
--- character refused by `check_basic_text_char` .., with the reason as the place in `BasicTextError` counted from 1 (2 to 16; 1
--- is unused); reasons 2, 3, 13, 16 carry it, 16 also its one to three replacements." Assumes nothing.
+-- Which characters are refused, and why: `check_basic_text_char` of internals/src/check.rs. "4 a character refused by
+-- `check_basic_text_char` .., with the reason as the place in `BasicTextError` counted from 1 (2 to 16; 1 is unused); reasons 2,
+-- 3, 13, 16 carry it, 16 also its one to three replacements." Assumes nothing.
 use Prim.Native.Nat.{ℕ}
 use mathlib.Core.Bool.{cond, _||_}
 use mathlib.Core.List.{List, [], _∷_}
@@ -15,6 +15,7 @@ use Rattle.check_char.specs.declared.BasicTextError.{BasicTextError}
 use Rattle.check_char.specs.declared.BasicTextError.the-variants.{ColorEscapeSequence, ControlCode, DeprecatedFormatChar, Escape, BidiFormatChar, Interlinear, LanguageTag, LineSeparation, NonChar, ParaSeparation, UnneededBOM, OutOfBand, Omit, Beyyal, UnrecognizedEscape, Replacement}
 use Rattle.check_char.specs.declared.Checked.{Checked}
 use Rattle.check_char.specs.declared.Checked.the-variants.{Ok, Err}
+use Rattle.check_char.specs.declared.Categorize.{Categorize}
 use Rattle.check_char.specs.declared.Categorized.{Categorized}
 use Rattle.check_char.specs.declared.Categorized.the-variants.{Char, Sub}
 use Rattle.check_char.specs.declared.Answer.{Answer}
@@ -27,10 +28,12 @@ kept =
     0xf900 to 0xfa0d ∷ one 0xfa10 ∷ one 0xfa12 ∷ 0xfa15 to 0xfa1e ∷ one 0xfa20 ∷ one 0xfa22 ∷
     0xfa25 to 0xfa26 ∷ 0xfa2a to 0xfa6d ∷ 0xfa70 to 0xfad9 ∷ 0x2f800 to 0x2fa1d ∷ []
 
+-- the Rust's arms in order, that of `Replacement` in two lists; each with its reason's number
 abbrev pub refusals : List (Row ℕ)
 refusals =
-    -- `c.is_control()` but for newline, tab and ESC
+    -- ControlCode: `c.is_control()` but for newline, tab and ESC
     each (0x0 to 0x8 ∷ 0xb to 0x1a ∷ 0x1c to 0x1f ∷ 0x7f to 0x9f ∷ []) 2
+    -- Replacement: what `replace` has a row for
     (each
     (one 0x149 ∷ one 0x673 ∷ one 0xf77 ∷ one 0xf79 ∷ 0x17a3 to 0x17a4 ∷ 0x2329 to 0x232a ∷
     one 0x2df5 ∷ one 0x111c4 ∷ 0xfb00 to 0xfb06 ∷
@@ -42,21 +45,27 @@ refusals =
     one 0x1d51d ∷ one 0x1d53a ∷ one 0x1d53f ∷ one 0x1d545 ∷
     0x1d547 to 0x1d549 ∷ one 0x1d551 ∷ []) 16
     (each kept 16
-    (one 0xe0001 gives 7 ∷
+    (
+    -- LanguageTag, Interlinear, Omit, Beyyal, DeprecatedFormatChar
+    one 0xe0001 gives 7 ∷
     0xfff9 to 0xfffb gives 6 ∷
     0x17b4 to 0x17b5 gives 13 ∷
     one 0x17d8 gives 14 ∷
     0x206a to 0x206f gives 3 ∷
+    -- LineSeparation, ParaSeparation, BidiFormatChar
     one 0x2028 gives 8 ∷
     one 0x2029 gives 10 ∷
     0x202a to 0x202e gives 5 ∷ 0x2066 to 0x2069 gives 5 ∷
+    -- NonChar
     each
     (0xfffe to 0xffff ∷ 0x1fffe to 0x1ffff ∷ 0x2fffe to 0x2ffff ∷ 0x3fffe to 0x3ffff ∷
     0x4fffe to 0x4ffff ∷ 0x5fffe to 0x5ffff ∷ 0x6fffe to 0x6ffff ∷ 0x7fffe to 0x7ffff ∷
     0x8fffe to 0x8ffff ∷ 0x9fffe to 0x9ffff ∷ 0xafffe to 0xaffff ∷ 0xbfffe to 0xbffff ∷
     0xcfffe to 0xcffff ∷ 0xdfffe to 0xdffff ∷ 0xefffe to 0xeffff ∷ 0xffffe to 0xfffff ∷
     0x10fffe to 0x10ffff ∷ 0xfdd0 to 0xfdef ∷ []) 9
-    (one 0xfffc gives 12 ∷
+    (
+    -- OutOfBand, UnneededBOM
+    one 0xfffc gives 12 ∷
     one 0xfeff gives 11 ∷ []))))
 
 -- the reason's number, and 0 where c is accepted
@@ -69,6 +78,7 @@ listedOf (One a) = record { count = 1; first = a; second = 0; third = 0 }
 listedOf (Two a b) = record { count = 2; first = a; second = b; third = 0 }
 listedOf (Three a b c) = record { count = 3; first = a; second = b; third = c }
 
+-- these four numbers
 abbrev pub listNumbers : Replacements → List ℕ
 listNumbers l = l .count ∷ l .first ∷ l .second ∷ l .third ∷ []
 
@@ -101,6 +111,7 @@ abbrev pub carried : ℕ → ℕ → List ℕ
 carried r c =
     cond (eqb r 16) (c ∷ listNumbers (listedOf (replaceOf c))) (cond (eqb r 2 || eqb r 3 || eqb r 13) (c ∷ []) [])
 
+-- what the check says of c: the reason's number and its values
 unfoldable pub checkNumbers : ℕ → List ℕ
 checkNumbers c = reasonOf c ∷ carried (reasonOf c) c
 
@@ -114,11 +125,11 @@ answerNumbers (Refused e) = 4 ∷ errorNumbers e
 abbrev pub checkAnswer : ℕ → List ℕ
 checkAnswer c = cond (isChar c) (cond (eqb (reasonOf c) 0) (0 ∷ []) (4 ∷ checkNumbers c)) (1 ∷ [])
 
--- `Categorize`: the character handed on, and behind a SUB the reason that is kept
+-- a step of `Categorize`: 0 or 4, the character handed on, and the reason that the record keeps
 abbrev pub categorizedNumbers : Categorized → List ℕ
-categorizedNumbers (Char c) = c ∷ []
-categorizedNumbers (Sub r) = 0x1a ∷ reasonNumbers (r .error)
+categorizedNumbers (Char c r) = 0 ∷ c ∷ reasonNumbers (r .error)
+categorizedNumbers (Sub r) = 4 ∷ 0x1a ∷ reasonNumbers (r .error)
 
--- "Each character is checked, refused ones becoming 1A"
-abbrev pub categorizeOf : ℕ → List ℕ
-categorizeOf c = cond (eqb (reasonOf c) 0) (c ∷ []) (0x1a ∷ checkNumbers c)
+-- "Each character is checked, refused ones becoming 1A"; an accepted one leaves the record as it is
+abbrev pub categorizeOf : Categorize → ℕ → List ℕ
+categorizeOf r c = cond (eqb (reasonOf c) 0) (0 ∷ c ∷ reasonNumbers (r .error)) (4 ∷ 0x1a ∷ checkNumbers c)

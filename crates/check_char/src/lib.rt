@@ -218,18 +218,19 @@ pub fn check(c: u32) -> Answer
     Answer::NotAChar
 }
 
-// The record of `Categorize`: the reason for which a character was refused, the Rust's shared cell.
+// The record of `Categorize`: the reason for which a character was last refused, the Rust's shared cell.
 pub struct Categorize {
     pub error: Checked,
 }
 
-// The character as it came, or SUB in its place with the record that keeps the reason.
+// The character as it came, or SUB, 1A, in its place; with the record after, which keeps the reason.
 pub enum Categorized {
-    Char(u32),
+    Char(u32, Categorize),
     Sub(Categorize),
 }
 
 impl Categorize {
+    // No character was refused yet.
     pub fn new() -> Self
         ensures { λ r. ⌜ r .error ≡ Checked.Ok ⌝ }
     {
@@ -238,11 +239,11 @@ impl Categorize {
 
     // One character. Inner: it does not ask whether c is a character.
     pub fn step(self, c: u32) -> Categorized
-        ensures { λ r. ⌜ categorizedNumbers r ≡ categorizeOf c ⌝ }
+        ensures { λ r. ⌜ categorizedNumbers r ≡ categorizeOf self c ⌝ }
     {
         let checked = check_basic_text_char(c);
         if let Checked::Ok = checked {
-            Categorized::Char(c)
+            Categorized::Char(c, self)
         } else {
             Categorized::Sub(Categorize { error: checked })
         }

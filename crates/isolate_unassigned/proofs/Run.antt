@@ -17,7 +17,8 @@ use lib.ListN.{length, getD, drop, set, length-set}
 use lib.Seq.{sets, sets-eq, drop-cons, drop-length}
 use Rattle.isolate_unassigned.specs.declared.IsolateUnassigned.{IsolateUnassigned}
 use Rattle.isolate_unassigned.specs.declared.Isolated.the-variants.{One, Two}
-use Rattle.isolate_unassigned.specs.Isolate.{fresh, stepOf, outs, isolateOf, filled}
+use Rattle.unicode.specs.Chars.{filled}
+use Rattle.isolate_unassigned.specs.Isolate.{fresh, stepOf, outs, isolateOf}
 
 module _ (p cs out₀ : List ℕ) where
   pub record Going (out : List ℕ) (r : IsolateUnassigned) (k i : ℕ) : Type 0 where

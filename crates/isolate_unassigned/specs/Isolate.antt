@@ -4,8 +4,8 @@ use mathlib.Core.Bool.{Bool, false, not, cond, _&&_, _||_}
 use mathlib.Core.List.{List, [], _∷_, _++_}
 use Prim.Native.Nat.{ℕ, zero, suc, _+_, _*_}
 use lib.Dec.{leb, eqb}
-use lib.ListN.{length, drop}
-use Rattle.unicode.specs.Chars.{areChars}
+use lib.ListN.{length}
+use Rattle.unicode.specs.Chars.{areChars, filled}
 use Rattle.page.specs.Page.{assigned, accepted}
 use Rattle.text_utils.specs.Classes.{isPrivateUse}
 use Rattle.isolate_unassigned.specs.declared.Answer.{Answer}
@@ -72,10 +72,6 @@ enough cs out = leb (placesFor (length cs)) (length out)
 abbrev pub isolateAnswer : List ℕ → List ℕ → List ℕ → Answer
 isolateAnswer p cs out =
     cond (accepted p) (cond (areChars cs) (cond (enough cs out) (Written (length (isolateOf p cs))) (Refused 8)) (Refused 1)) (Refused 2)
-
--- the places with ds in the first, and the others as they were
-abbrev pub filled : List ℕ → List ℕ → List ℕ
-filled ds out = ds ++ drop (length ds) out
 
 -- the places as isolation leaves them: unchanged by a refusal
 abbrev pub isolatePlaces : List ℕ → List ℕ → List ℕ → List ℕ

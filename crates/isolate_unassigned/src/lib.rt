@@ -10,9 +10,9 @@ ghost use mathlib.Core.Path.{_≡_};
 ghost use mathlib.Core.Bool.{true};
 ghost use Prim.Native.Nat.{_≤_};
 ghost use lib.ListN.{length};
-ghost use Rattle.unicode.specs.Chars.{areChars};
+ghost use Rattle.unicode.specs.Chars.{areChars, filled};
 ghost use Rattle.page.specs.Page.{accepted};
-ghost use Rattle.isolate_unassigned.specs.Isolate.{unassigned, fresh, stepOf, placesFor, isolateOf, filled, isolateAnswer, isolatePlaces};
+ghost use Rattle.isolate_unassigned.specs.Isolate.{unassigned, fresh, stepOf, placesFor, isolateOf, isolateAnswer, isolatePlaces};
 
 // Puts 34F around unassigned characters.
 pub struct IsolateUnassigned {

@@ -17,7 +17,7 @@ use Rattle.ranges.proofs.Laws.{member-below}
 use Rattle.page.specs.Page.{accepted, nonstarter}
 use Rattle.page.proofs.PageLaws.{facts-of-accepted}
 use Rattle.text_utils.specs.Tables.{graphemeExtend, emojiModifier, spacingMark, spacingMarkExceptions}
-use Rattle.text_utils.specs.Classes.{has, starter, graphemeExtendNotCgj, spacingMarkPlus, basicTextStart, basicTextEnd}
+use Rattle.text_utils.specs.Classes.{listed, starter, graphemeExtendNotCgj, spacingMarkPlus, basicTextStart, basicTextEnd}
 use Rattle.text_utils.proofs.Rising.{high-extend, high-emoji, high-spacing, high-repha, high-prefixed, high-prepended}
 
 -- being m, as a range of one character

@@ -12,8 +12,8 @@ use Rattle.text_utils.specs.declared.Class.the-variants.{Is, Refused}
 use Rattle.text_utils.specs.Tables.{graphemeExtend, emojiModifier, spacingMark, spacingMarkExceptions, consonantPrecedingRepha, consonantPrefixed, prependedConcatenationMark, privateUse}
 
 -- c has the property whose ranges the table lists
-abbrev pub has : List (ℕ × ℕ) → ℕ → Bool
-has t c = member (firstsOf t) (lastsOf t) c
+abbrev pub listed : List (ℕ × ℕ) → ℕ → Bool
+listed t c = member (firstsOf t) (lastsOf t) c
 
 -- ---- start
 -- `is_starter`: every ASCII character, whatever the page says, and what is no nonstarter by the page
@@ -22,11 +22,11 @@ starter p c = ltb c 0x80 || not (nonstarter p c)
 
 -- `is_grapheme_extend_not_cgj`: Grapheme_Extend = Yes, except CGJ, 34F
 unfoldable pub graphemeExtendNotCgj : ℕ → Bool
-graphemeExtendNotCgj c = has graphemeExtend c && not (eqb c 0x34f)
+graphemeExtendNotCgj c = listed graphemeExtend c && not (eqb c 0x34f)
 
 -- `is_grapheme_cluster_break_spacing_mark_plus`: E33, EB3, and General_Category = Spacing_Mark but for the exceptions
 unfoldable pub spacingMarkPlus : ℕ → Bool
-spacingMarkPlus c = eqb c 0xe33 || eqb c 0xeb3 || (has spacingMark c && not (has spacingMarkExceptions c))
+spacingMarkPlus c = eqb c 0xe33 || eqb c 0xeb3 || (listed spacingMark c && not (listed spacingMarkExceptions c))
 
 -- `is_basic_text_start`: a starter that is neither ZWJ, nor Extend (CGJ apart), nor SpacingMark
 unfoldable pub basicTextStart : List ℕ → ℕ → Bool
@@ -34,7 +34,7 @@ basicTextStart p c =
     starter p c
     && not (eqb c 0x200d)
     && not (graphemeExtendNotCgj c)
-    && not (has emojiModifier c)
+    && not (listed emojiModifier c)
     && not (spacingMarkPlus c)
 
 -- ---- end
@@ -46,13 +46,13 @@ lackedByRust c = leb 0x890 c && leb c 0x891
 unfoldable pub basicTextEnd : ℕ → Bool
 basicTextEnd c =
     not (eqb c 0x200d)
-    && not (has consonantPrecedingRepha c)
-    && not (has consonantPrefixed c)
-    && not (has prependedConcatenationMark c && not (lackedByRust c))
+    && not (listed consonantPrecedingRepha c)
+    && not (listed consonantPrefixed c)
+    && not (listed prependedConcatenationMark c && not (lackedByRust c))
 
 -- ---- private use: `is_private_use_area`
 unfoldable pub isPrivateUse : ℕ → Bool
-isPrivateUse c = has privateUse c
+isPrivateUse c = listed privateUse c
 
 -- ---- the entries: "Entries on one character give 1 (the start class 2, then 1)"
 abbrev pub startClass : List ℕ → ℕ → Class

@@ -12,7 +12,7 @@ ghost use mathlib.Core.Path.{_≡_};
 ghost use mathlib.Core.Bool.{true, not, _&&_};
 ghost use Rattle.page.specs.Page.{accepted};
 ghost use Rattle.text_utils.specs.Tables.{emojiModifier, spacingMark, spacingMarkExceptions, consonantPrecedingRepha, consonantPrefixed, prependedConcatenationMark};
-ghost use Rattle.text_utils.specs.Classes.{has, starter, graphemeExtendNotCgj, spacingMarkPlus, basicTextStart, lackedByRust, basicTextEnd, isPrivateUse, startClass, endClass};
+ghost use Rattle.text_utils.specs.Classes.{listed, starter, graphemeExtendNotCgj, spacingMarkPlus, basicTextStart, lackedByRust, basicTextEnd, isPrivateUse, startClass, endClass};
 
 fn is_grapheme_extend_not_cgj(c: u32) -> bool
     ensures { λ r. ⌜ r ≡ graphemeExtendNotCgj c ⌝ }
@@ -25,7 +25,7 @@ fn is_grapheme_extend_not_cgj(c: u32) -> bool
 }
 
 fn is_emoji_modifier(c: u32) -> bool
-    ensures { λ r. ⌜ r ≡ has emojiModifier c ⌝ }
+    ensures { λ r. ⌜ r ≡ listed emojiModifier c ⌝ }
 {
     in_ranges(
         &tables::EMOJI_MODIFIER_FIRST,
@@ -35,13 +35,13 @@ fn is_emoji_modifier(c: u32) -> bool
 }
 
 fn is_general_category_spacing_mark(c: u32) -> bool
-    ensures { λ r. ⌜ r ≡ has spacingMark c ⌝ }
+    ensures { λ r. ⌜ r ≡ listed spacingMark c ⌝ }
 {
     in_ranges(&tables::SPACING_MARK_FIRST, &tables::SPACING_MARK_LAST, c)
 }
 
 fn is_spacing_mark_exception(c: u32) -> bool
-    ensures { λ r. ⌜ r ≡ has spacingMarkExceptions c ⌝ }
+    ensures { λ r. ⌜ r ≡ listed spacingMarkExceptions c ⌝ }
 {
     in_ranges(
         &tables::SPACING_MARK_EXCEPTION_FIRST,
@@ -94,7 +94,7 @@ pub fn is_basic_text_start(page: &[u32], c: u32) -> bool
 }
 
 fn indic_syllabic_category_consonant_preceding_repha(c: u32) -> bool
-    ensures { λ r. ⌜ r ≡ has consonantPrecedingRepha c ⌝ }
+    ensures { λ r. ⌜ r ≡ listed consonantPrecedingRepha c ⌝ }
 {
     in_ranges(
         &tables::CONSONANT_PRECEDING_REPHA_FIRST,
@@ -104,7 +104,7 @@ fn indic_syllabic_category_consonant_preceding_repha(c: u32) -> bool
 }
 
 fn indic_syllabic_category_consonant_prefixed(c: u32) -> bool
-    ensures { λ r. ⌜ r ≡ has consonantPrefixed c ⌝ }
+    ensures { λ r. ⌜ r ≡ listed consonantPrefixed c ⌝ }
 {
     in_ranges(
         &tables::CONSONANT_PREFIXED_FIRST,
@@ -114,7 +114,7 @@ fn indic_syllabic_category_consonant_prefixed(c: u32) -> bool
 }
 
 fn prepended_concatenation_mark(c: u32) -> bool
-    ensures { λ r. ⌜ r ≡ has prependedConcatenationMark c && not (lackedByRust c) ⌝ }
+    ensures { λ r. ⌜ r ≡ listed prependedConcatenationMark c && not (lackedByRust c) ⌝ }
 {
     in_ranges(
         &tables::PREPENDED_CONCATENATION_MARK_FIRST,

@@ -3,7 +3,7 @@ use Prim.Native.Nat.{ℕ, _+_, _-_, _*_}
 use mathlib.Core.Bool.{cond, _&&_}
 use mathlib.Core.List.{List}
 use lib.ListN.{getD}
-use lib.Dec.{ltb, leb}
+use lib.Dec.{leb}
 use Rattle.unicode.specs.declared.utf8.Bits.{Bits}
 use Rattle.unicode.specs.declared.utf8.Bits.the-variants.{Read, Broken}
 use Rattle.unicode.specs.declared.utf8.Utf8Step.{Utf8Step}

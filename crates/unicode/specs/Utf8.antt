@@ -11,7 +11,7 @@ use Rattle.unicode.specs.declared.utf8.Encoded.the-variants.{Next, Refus
 use Rattle.unicode.specs.declared.utf8.Prefix.{Prefix}
 use Rattle.unicode.specs.declared.utf8.Utf8Step.{Utf8Step}
 use Rattle.unicode.specs.declared.utf8.Utf8Step.the-variants.{Char, Stop}
-use Rattle.unicode.specs.Chars.{isChar, areChars}
+use Rattle.unicode.specs.Chars.{isChar, areChars, filled}
 
 -- the bytes that encode a character: section 3, the table
 --     0000..007F     0xxxxxxx
@@ -77,7 +77,7 @@ decodeOf bs out = take (length out) (charsOf bs)
 
 -- the places as decoding leaves them: the characters from the first on, and the others as they were
 abbrev pub decodePlaces : List ℕ → List ℕ → List ℕ
-decodePlaces bs out = decodeOf bs out ++ drop (length (decodeOf bs out)) out
+decodePlaces bs out = filled (decodeOf bs out) out
 
 -- ---- writing
 -- the answer of encoding c at `at`: 1 for a number that is no character, 8 for too few bytes from there on, else the place after it

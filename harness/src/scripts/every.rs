@@ -1,8 +1,13 @@
-//! The entries on one character, for every character, with the real page. With a larger step it is one character in so
-//! many, and the seed shifts them. Values that are no characters follow, whatever the step.
+//! The entries on one character, for every character, with the real page; then the start class with made-up pages. With a
+//! larger step it is one character in so many, and the seed shifts them. Values that are no characters follow, whatever the
+//! step.
 
 use super::{operation, real_page_line};
 use crate::page::LAST_CHARACTER;
+
+/// Pages that are made up: an ASCII nonstarter, nonstarters before and past CGJ, all of them but the three that may not be.
+const MADE_UP: [&str; 3] =
+    ["P 1 1 61 0 61 377", "P 2 1 300 370 0 34e 3ff 10ffff", "P 4 1 0 b 21 350 0 9 1f 34e 10ffff 10ffff"];
 
 const ENTRIES: [&str; 4] = ["L replace", "L check", "L end", "L start"];
 
@@ -15,9 +20,17 @@ const NO_CHARACTERS: [u32; 24] = [
 ];
 
 pub fn script(seed: u64, step: usize) -> impl Iterator<Item = String> {
+    let all = values(seed, step).flat_map(|value| ENTRIES.map(|entry| operation(entry, [value])));
+    let starts = MADE_UP.into_iter().flat_map(move |page| {
+        std::iter::once(page.to_owned()).chain(values(seed, step).map(|value| operation("L start", [value])))
+    });
+    std::iter::once(real_page_line()).chain(all).chain(starts)
+}
+
+/// The characters, one in `step`, and the values that are none.
+fn values(seed: u64, step: usize) -> impl Iterator<Item = u32> {
     let step = step.max(1);
     let skipped = (seed % step as u64) as usize;
     let characters = (0..=LAST_CHARACTER).filter(|c| char::from_u32(*c).is_some());
-    let values = characters.skip(skipped).step_by(step).chain(NO_CHARACTERS);
-    std::iter::once(real_page_line()).chain(values.flat_map(|value| ENTRIES.map(|entry| operation(entry, [value]))))
+    characters.skip(skipped).step_by(step).chain(NO_CHARACTERS)
 }
