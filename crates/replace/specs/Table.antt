@@ -1,7 +1,7 @@
 -- A decision over numbers, as a list of rows: the numbers from a first to a last, and the answer. The first row that has the
 -- number decides. Assumes nothing.
 use Prim.Native.Nat.{ℕ}
-use mathlib.Core.Bool.{Bool, true, false, _&&_, _||_, cond}
+use mathlib.Core.Bool.{Bool, false, _&&_, _||_, cond}
 use mathlib.Core.List.{List, [], _∷_}
 use lib.Dec.{leb}
 

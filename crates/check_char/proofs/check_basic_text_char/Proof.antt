@@ -22,7 +22,7 @@ last : (c : tie.At-match-rest) → c .before .reason .result ≡ 16
 last c =
     at-point
     (free-at keys (points reasons) (c .match .rest)
-    (points-at reasons (hit reasons (c .before .reason .result) (rw (c .before .reason .ensures) (reason-listed (c .before .before .args .c))))))
+    (points-at reasons (hit reasons (c .before .reason .result) (rw (c .before .reason .ensures) (reason-listed _)))))
     (omega arith)
 
 returns-14 : tie.Need-returns-14

@@ -1,12 +1,12 @@
 -- `unicode::utf8::more` meets its contract: past the end the byte is 0, which is no continuation byte; elsewhere its test
 -- is `moreOf`'s.
-use Prim.Native.Nat.{ℕ}
+use Prim.Native.Nat.{ℕ, _≤_}
 use denote.Ref.{now}
 use native.Mathlib.Omega.{arith}
 use borrow.Author.Needs.{needs}
 use borrow.Author.Tests.{leb-true}
 use lib.Dec.{leb}
-use lib.ListN.{List·getD-eq-default}
+use lib.ListN.{length, List·getD-eq-default}
 use Rattle.unicode.specs.Inner.{moreOf}
 use Rattle.unicode.proofs.Kit.{both-true}
 use Rattle.unicode.proofs.utf8.more.Statement.{statement}
@@ -14,7 +14,10 @@ use Rattle.unicode.proofs.utf8.more.Tie as tie
 
 returns : tie.Need-returns
 unfolding moreOf
-returns c = simp (List·getD-eq-default {A = ℕ} (now (c .before .before .args .bytes)) 0 (c .if1 .taken))
+returns c =
+    let a = c .before .before .args in
+    let past : length (now (a .bytes)) ≤ a .i = omega arith in
+    simp (List·getD-eq-default {A = ℕ} (now (a .bytes)) 0 past)
 
 sub-t13 : tie.Need-sub-t13
 sub-t13 c = leb-true _ _ (both-true _ _ (c .if2 .taken) .0)
