@@ -5,7 +5,7 @@ use page::is_accepted;
 use page::is_assigned;
 use text_utils::is_private_use_area;
 use unicode::CGJ;
-use unicode::is_char;
+use unicode::are_chars;
 ghost use mathlib.Core.Path.{_≡_};
 ghost use mathlib.Core.Bool.{true};
 ghost use Prim.Native.Nat.{_≤_};
@@ -86,19 +86,6 @@ impl IsolateUnassigned {
 pub enum Answer {
     Written(usize),
     Refused(u32),
-}
-
-// Whether every value is a character. Total. The loop has no early exit, so that it can be vectorised.
-fn are_chars(chars: &[u32]) -> bool
-    ensures { λ r. ⌜ r ≡ areChars (now (chars .entry)) ⌝ }
-{
-    let mut good = true;
-    let mut i = 0;
-    while i < chars.len() {
-        good = good & is_char(chars[i]);
-        i += 1;
-    }
-    good
 }
 
 // How many places a run asks for. Total: a slice of 32-bit numbers is too short for the sum to wrap.

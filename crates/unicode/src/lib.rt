@@ -11,7 +11,7 @@ pub use utf8::utf8_step;
 pub use utf8::valid_prefix;
 pub use utf8::write_utf8;
 ghost use mathlib.Core.Path.{_≡_};
-ghost use Rattle.unicode.specs.Chars.{isChar};
+ghost use Rattle.unicode.specs.Chars.{isChar, areChars};
 
 // The bytes of the longest UTF-8 encoding of a character.
 pub const MAX_UTF8_SIZE: usize = 4;
@@ -75,4 +75,17 @@ pub fn is_char(c: u32) -> bool
     ensures { λ r. ⌜ r ≡ isChar c ⌝ }
 {
     !((0xd800 <= c) & (c <= 0xdfff) | (0x10ffff < c))
+}
+
+// Whether every value is a character. Total. The loop has no early exit, so that it can be vectorised.
+pub fn are_chars(chars: &[u32]) -> bool
+    ensures { λ r. ⌜ r ≡ areChars (now (chars .entry)) ⌝ }
+{
+    let mut good = true;
+    let mut i = 0;
+    while i < chars.len() {
+        good = good & is_char(chars[i]);
+        i += 1;
+    }
+    good
 }

@@ -1,4 +1,4 @@
--- `isolate_unassigned::are_chars` meets its contract. The loop's invariant: the flag and what is left are characters exactly if all
+-- `unicode::are_chars` meets its contract. The loop's invariant: the flag and what is left are characters exactly if all
 -- are.
 use Prim.Native.Nat.{ℕ, _+_, _-_, _≤_, _<_}
 use mathlib.Core.Path.{_≡_, refl, sym, _∙_}
@@ -8,9 +8,9 @@ use native.Mathlib.Numerals.{add-one}
 use borrow.Author.Needs.{needs}
 use lib.ListN.{length, getD, drop, drop-of-length-le}
 use lib.Seq.{drop-cons}
 use Rattle.unicode.specs.Chars.{isChar, areChars}
-use Rattle.isolate_unassigned.proofs.are_chars.Statement.{statement}
-use Rattle.isolate_unassigned.proofs.are_chars.Tie as tie
+use Rattle.unicode.proofs.are_chars.Statement.{statement}
+use Rattle.unicode.proofs.are_chars.Tie as tie
 
 abbrev Inv-loop : tie.InvT-loop
 Inv-loop chars good₀ i₀ good i = (i ≤ length chars) × (good && areChars (drop i chars) ≡ areChars chars)
