@@ -1,0 +1,112 @@
+-- What an accepted call may rely on, and that answer, record and places are then the definition's. Assumes nothing.
+--     refused-is                  a scan that is refused
+--     counts, enough, accepted-is an accepted scan: the count stays within its limit, what it appends has room, its outcome
+--     finish-refused, finished-is a finish
+use mathlib.Core.Path.{_≡_, refl, sym, _∙_}
+use mathlib.Core.Bool.{Bool, true, false, cond, not, _&&_, _||_}
+use mathlib.Core.List.{List, [], _∷_, _++_}
+use Prim.Native.Nat.{ℕ, zero, suc, _+_, _-_, _*_, _≤_, _<_}
+use native.Mathlib.Omega.{arith}
+use borrow.Author.Tests.{ltb-false, eq-eqb, ne-eqb, lt-ltb, le-ltb}
+use lib.Dec.{eqb, ltb, leb}
+use lib.ListN.{length, take, drop, length-drop}
+use lib.Seq.{take-all}
+use Rattle.unicode.specs.Chars.{areChars, filled}
+use Rattle.page.specs.Page.{accepted}
+use Rattle.isolate_unassigned.specs.declared.Answer.the-variants.{Written}
+use Rattle.text_input.specs.declared.State.the-variants.{Ground}
+use Rattle.text_input.specs.declared.Options.{Options}
+use Rattle.text_input.specs.declared.TextInput.{TextInput}
+use Rattle.text_input.specs.declared.step.Lead.{Lead}
+use Rattle.text_input.specs.Step.{leadChars, lastOf}
+use Rattle.text_input.specs.Scan.{outs, ends, placesFor, refusalOf, scanRefusal, mark, skipped, opened, outcome, refused, scanOf, pendingOf, afterLine, endMarkOf, newlineOf, finishChars, finishNext, finishOf}
+use Rattle.text_input.proofs.Kit.{last-three}
+use Rattle.text_input.proofs.Room.{part-room, finish-room}
+
+-- ---- a scan
+-- the tests behind a refusal that is none
+passed : (a b d e : Bool) → _≡_ {A = ℕ} (cond (not a) 2 (cond (not b) 1 (cond d 10 (cond e 8 0)))) 0 → (a ≡ true) × (d ≡ false) × (e ≡ false)
+passed true true false false h = (refl, refl, refl)
+passed true true false true h = absurd (omega arith)
+passed true true true e h = absurd (omega arith)
+passed true false d e h = absurd (omega arith)
+passed false b d e h = absurd (omega arith)
+
+mark-le : (cs : List ℕ) → mark cs ≤ length cs
+mark-le [] = omega arith
+mark-le (c ∷ cs) = one (eqb c 0xFEFF)
+  where
+    one : (b : Bool) → cond b 1 0 ≤ suc (length cs)
+    one true = omega arith
+    one false = omega arith
+
+skip-le : (f : Bool) (cs : List ℕ) → cond f (mark cs) 0 ≤ length cs
+skip-le false cs = omega arith
+skip-le true cs = mark-le cs
+
+rest : (l : List ℕ) (s : ℕ) → take (length l - s) (drop s l) ≡ drop s l
+rest l s = take-all (length l - s) (drop s l) (omega (arith, length-drop s l))
+
+module _ (r : TextInput) (p : List ℕ) (o : Options) (chunk queue : List ℕ) (n : ℕ) (e : n ≡ scanRefusal r p chunk (length queue)) where
+  pub refused-is : (n ≡ 0 → ⊥) → refused r n queue ≡ scanOf r p o chunk queue
+  unfolding scanOf
+  refused-is h = rw (← e, ne-eqb n 0 h)
+
+  module _ (z : n ≡ 0) where
+    told : (accepted p ≡ true) × (ltb 4294967295 (r .count + length chunk) ≡ false) × (ltb (length queue) (placesFor (length chunk)) ≡ false)
+    unfolding refusalOf
+    told = passed (accepted p) (areChars chunk) _ _ (sym e ∙ z)
+
+    pub right-page : accepted p ≡ true
+    right-page = told .0
+
+    pub counts : r .count + length chunk ≤ 4294967295
+    counts = ltb-false 4294967295 (r .count + length chunk) (told .1)
+
+    module _ (from : ℕ) (f : from ≡ skipped r chunk) where
+      pub from-le : from ≤ length chunk
+      from-le = rw f (skip-le (r .«at_start») chunk)
+
+      module _ (fresh : TextInput) (g : fresh ≡ opened r (length chunk)) where
+        pub enough : length (outs p o fresh (take (length chunk - from) (drop from chunk))) ≤ length queue
+        enough =
+            rw rest (omega (arith, part-room p o fresh from chunk, ltb-false (length queue) (placesFor (length chunk)) (told .2)))
+
+        pub accepted-is : (k : ℕ) (next : TextInput) (q : List ℕ) →
+            (k ≡ length (outs p o fresh (take (length chunk - from) (drop from chunk))))
+            × ((next ≡ ends p o fresh (take (length chunk - from) (drop from chunk)))
+            × (q ≡ filled (outs p o fresh (take (length chunk - from) (drop from chunk))) queue))
+            → outcome (record { answer = Written k; next = next }) q ≡ scanOf r p o chunk queue
+        unfolding scanOf
+        accepted-is k next q h = rw (← e, eq-eqb n 0 z, h .0, h .1 .0, h .1 .1, rest, f, g)
+
+-- ---- a finish
+module _ (r : TextInput) (eof : Bool) (queue : List ℕ) where
+  pub finish-refused : length queue < 2 → refused r 8 queue ≡ finishOf r eof queue
+  unfolding finishOf
+  finish-refused h = rw (lt-ltb (length queue) 2 h)
+
+  module _ (room : 2 ≤ length queue) (line : Bool) (lead mark newline : Lead) (last l₂ l₃ : ℕ)
+      (h₁ : line ≡ afterLine (r .state)) (h₂ : lead ≡ pendingOf (r .state)) (h₃ : last ≡ lastOf (r .last) (leadChars lead))
+      (h₄ : mark ≡ endMarkOf last) (h₅ : newline ≡ newlineOf (eof && not line)) where
+    parts : leadChars lead ++ (leadChars mark ++ leadChars newline) ≡ finishChars r eof
+    parts = rw (h₅, h₄, h₃, h₂, h₁)
+
+    pub finish-enough : length (leadChars lead ++ (leadChars mark ++ leadChars newline)) ≤ length queue
+    finish-enough = rw parts (omega (arith, finish-room r eof))
+
+    pub finished-is : l₂ ≡ lastOf last (leadChars mark) → l₃ ≡ lastOf l₂ (leadChars newline) → (k : ℕ) (q : List ℕ) →
+        (k ≡ length (leadChars lead ++ (leadChars mark ++ leadChars newline)))
+        × (q ≡ filled (leadChars lead ++ (leadChars mark ++ leadChars newline)) queue)
+        → outcome
+        (record {
+          answer = Written k;
+          next = record { state = Ground (eof || line); «expect_starter» = true; «at_start» = r .«at_start»; last = l₃; count = r .count };
+        })
+        q
+        ≡ finishOf r eof queue
+    unfolding finishOf
+    finished-is h₆ h₇ k q h =
+        let l : l₃ ≡ lastOf (r .last) (finishChars r eof) =
+        rw (h₇, h₆, h₃) (last-three (r .last) (leadChars lead) (leadChars mark) (leadChars newline) ∙ rw parts) in
+        rw (le-ltb (length queue) 2 room, l, h .0, h .1, parts, h₁)

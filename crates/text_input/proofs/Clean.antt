@@ -1,0 +1,202 @@
+-- What a call appends is clean, and are characters; and what a run leaves alone. Idea: what a step appends is 0A, 20, 34F or the
+-- replacement of a character that the ground state took, which is no ESC, so that any test that these pass holds of the whole
+-- queue. Assumes nothing.
+--     other-no-escape                        the ground state never replaces ESC
+--     run-clean, scan-clean, finish-clean    `clean` (check_char/proofs/Clean.antt) holds of all that is appended: accepted by the
+--                                            check or one of those that it lists though nothing replaces them, and no ESC
+--     run-chars, scan-chars, finish-chars    all that is appended are characters
+--     count-kept, start-kept                 a run leaves the count and the chance to drop FEFF
+--     scan-count                             an accepted scan counts its chunk
+use Prim.Native.Nat.{ℕ, zero, suc, _+_}
+use mathlib.Core.Path.{_≡_, refl, _∙_}
+use mathlib.Core.Bool.{Bool, true, false, cond, not, _&&_}
+use mathlib.Core.List.{List, [], _∷_, _++_}
+use native.Mathlib.Omega.{arith}
+use lib.Dec.{T}
+use lib.ListN.{length, drop}
+use Rattle.unicode.specs.Chars.{isChar, areChars}
+use Rattle.unicode.proofs.Kit.{split, both-true}
+use Rattle.unicode.proofs.Rows.{char-lt}
+use Rattle.replace.specs.declared.Replaced.{Replaced}
+use Rattle.replace.specs.Replace.{chars, replaceOf}
+use Rattle.replace.proofs.Rows.{and-i, and-l, and-r}
+use Rattle.text_utils.specs.Classes.{basicTextStart, basicTextEnd}
+use Rattle.check_char.specs.Check.{reasonOf}
+use Rattle.check_char.proofs.Clean.{clean, all, replaced-clean, replaced-chars}
+use Rattle.text_input.specs.declared.State.{State}
+use Rattle.text_input.specs.declared.State.the-variants.{Ground, Cr, Ff, Esc, CsiStart, Csi, Osc, Linux}
+use Rattle.text_input.specs.declared.Options.{Options}
+use Rattle.text_input.specs.declared.TextInput.{TextInput}
+use Rattle.text_input.specs.declared.step.Lead.{Lead}
+use Rattle.text_input.specs.declared.step.Lead.the-variants.{Nothing, Char}
+use Rattle.text_input.specs.declared.step.Left.{Left}
+use Rattle.text_input.specs.declared.step.Left.the-variants.{Part, Newline, Goes, After, Dropped}
+use Rattle.text_input.specs.declared.step.Met.{Met}
+use Rattle.text_input.specs.declared.step.Met.the-variants.{Line, Opens, Other}
+use Rattle.text_input.specs.Step.{leadChars, imageChars, outChars, firstChar, lastOf, leaveOf, meetOf, guardOf, metOf, leftOf, stepOf}
+use Rattle.text_input.specs.Scan.{outs, ends, skipped, opened, scanChars, scanNext, pendingOf, afterLine, endMarkOf, newlineOf, finishChars}
+use Rattle.text_input.proofs.Room.{Given, given-pending}
+
+pub other-no-escape : (o : Options) (c : ℕ) → meetOf o c ≡ Other → c ≡ 0x1B → ⊥
+unfolding meetOf
+other-no-escape o c h e = let g : Opens Esc ≡ Other = rw e at h in let z : _≡_ {A = ℕ} 0 1 = cc in omega arith
+
+-- ---- a test that 0A, 20, 34F and the replacement of any character but ESC pass
+module _ (f : ℕ → Bool) where
+  one : (x : ℕ) → T (f x) → T (all f (x ∷ []))
+  one x h = and-i (f x) true h tt
+
+  append : (v w : List ℕ) → T (all f v) → T (all f w) → T (all f (v ++ w))
+  append [] w h g = g
+  append (x ∷ v) w h g = and-i (f x) (all f (v ++ w)) (and-l (f x) (all f v) h) (append v w (and-r (f x) (all f v) h) g)
+
+record Passes (f : ℕ → Bool) : Type 0 where
+  newline : T (f 0x0A)
+  space : T (f 0x20)
+  joiner : T (f 0x34F)
+  replaced : (c : ℕ) → isChar c ≡ true → (c ≡ 0x1B → ⊥) → T (all f (chars (replaceOf c)))
+
+module _ (f : ℕ → Bool) (pass : Passes f) where
+  abbrev Leads : Lead → Type 0
+  Leads l = T (all f (leadChars l))
+
+  pending-pass : (s : State) → Leads (pendingOf s)
+  pending-pass (Ground b) = tt
+  pending-pass Cr = one f 0x0A (pass .newline)
+  pending-pass Ff = one f 0x20 (pass .space)
+  pending-pass Esc = tt
+  pending-pass CsiStart = tt
+  pending-pass Csi = tt
+  pending-pass Osc = tt
+  pending-pass Linux = tt
+
+  -- ---- a step
+  module _ (p : List ℕ) (o : Options) where
+    guard-pass : (lead : Lead) (expect : Bool) (i : Replaced) → Leads lead → Leads (guardOf p lead expect i)
+    guard-pass lead true i h = split Leads (basicTextStart p (firstChar i)) (λ e. h) (λ e. one f 0x34F (pass .joiner))
+    guard-pass lead false i h = h
+
+    met-pass : (r : TextInput) (c : ℕ) (lead : Lead) (expect : Bool) (m : Met) → meetOf o c ≡ m → isChar c ≡ true → Leads lead →
+        T (all f (outChars (metOf p r c lead expect m)))
+    met-pass r c lead expect Line e char h = append f (leadChars lead) (0x0A ∷ []) h (one f 0x0A (pass .newline))
+    met-pass r c lead expect (Opens s) e char h = append f (leadChars lead) [] h tt
+    met-pass r c lead expect Other e char h =
+        append f (leadChars (guardOf p lead expect (replaceOf c))) (chars (replaceOf c)) (guard-pass lead expect (replaceOf c) h)
+        (pass .replaced c char (other-no-escape o c e))
+
+    left-pass : (r : TextInput) (c : ℕ) (l : Left) → Given (r .state) l → isChar c ≡ true → T (all f (outChars (leftOf p o r c l)))
+    left-pass r c (Part s) h char = tt
+    left-pass r c Newline h char = one f 0x0A (pass .newline)
+    left-pass r c Goes h char = met-pass r c Nothing (r .«expect_starter») (meetOf o c) refl char tt
+    left-pass r c (After a) h char = met-pass r c (Char a) false (meetOf o c) refl char (rw h at (pending-pass (r .state)))
+    left-pass r c Dropped h char = met-pass r c Nothing false (meetOf o c) refl char tt
+
+    step-pass : (r : TextInput) (c : ℕ) → isChar c ≡ true → T (all f (outChars (stepOf p o r c)))
+    unfolding stepOf
+    step-pass r c char = left-pass r c (leaveOf (r .state) c) (given-pending (r .state) c) char
+
+    -- ---- a run
+    run-pass : (r : TextInput) (cs : List ℕ) → areChars cs ≡ true → T (all f (outs p o r cs))
+    run-pass r [] h = tt
+    run-pass r (c ∷ cs) h =
+        let g = both-true (isChar c) (areChars cs) h in
+        append f (outChars (stepOf p o r c)) (outs p o (stepOf p o r c .next) cs) (step-pass r c (g .0))
+        (run-pass (stepOf p o r c .next) cs (g .1))
+
+  -- ---- a finish
+  finish-pass : (r : TextInput) (eof : Bool) → T (all f (finishChars r eof))
+  finish-pass r eof =
+      let last = lastOf (r .last) (leadChars (pendingOf (r .state))) in
+      let owed = eof && not (afterLine (r .state)) in
+      append f (leadChars (pendingOf (r .state))) (leadChars (endMarkOf last) ++ leadChars (newlineOf owed)) (pending-pass (r .state))
+      (append f (leadChars (endMarkOf last)) (leadChars (newlineOf owed))
+      (split Leads (basicTextEnd last) (λ e. tt) (λ e. one f 0x34F (pass .joiner)))
+      (split Leads owed (λ e. one f 0x0A (pass .newline)) (λ e. tt)))
+
+-- ---- the two tests
+clean-passes : Passes clean
+unfolding reasonOf
+clean-passes = record { newline = tt; space = tt; joiner = tt; replaced = λ c char n. replaced-clean c (char-lt c char) n }
+
+-- being characters, as such a test
+to-test : (w : List ℕ) → areChars w ≡ true → T (all isChar w)
+to-test [] h = tt
+to-test (x ∷ w) h =
+    let g = both-true (isChar x) (areChars w) h in and-i (isChar x) (all isChar w) (rw (g .0) tt) (to-test w (g .1))
+
+holds : (b : Bool) → T b → b ≡ true
+holds true t = refl
+holds false t = absurd t
+
+from-test : (w : List ℕ) → T (all isChar w) → areChars w ≡ true
+from-test [] h = refl
+from-test (x ∷ w) h =
+    rw (holds (isChar x) (and-l (isChar x) (all isChar w) h)) (from-test w (and-r (isChar x) (all isChar w) h))
+
+char-passes : Passes isChar
+unfolding isChar
+char-passes = record { newline = tt; space = tt; joiner = tt; replaced = λ c char n. to-test (chars (replaceOf c)) (replaced-chars c char) }
+
+-- ---- the queue
+drop-chars : (n : ℕ) (cs : List ℕ) → areChars cs ≡ true → areChars (drop n cs) ≡ true
+drop-chars zero cs h = h
+drop-chars (suc n) [] h = refl
+drop-chars (suc n) (c ∷ cs) h = drop-chars n cs (both-true (isChar c) (areChars cs) h .1)
+
+module _ (p : List ℕ) (o : Options) (r : TextInput) (cs : List ℕ) (h : areChars cs ≡ true) where
+  pub run-clean : T (all clean (outs p o r cs))
+  run-clean = run-pass clean clean-passes p o r cs h
+
+  pub run-chars : areChars (outs p o r cs) ≡ true
+  run-chars = from-test (outs p o r cs) (run-pass isChar char-passes p o r cs h)
+
+module _ (p : List ℕ) (o : Options) (r : TextInput) (chunk : List ℕ) (h : areChars chunk ≡ true) where
+  pub scan-clean : T (all clean (scanChars p o r chunk))
+  scan-clean =
+      run-clean p o (opened r (length chunk)) (drop (skipped r chunk) chunk) (drop-chars (skipped r chunk) chunk h)
+
+  pub scan-chars : areChars (scanChars p o r chunk) ≡ true
+  scan-chars =
+      run-chars p o (opened r (length chunk)) (drop (skipped r chunk) chunk) (drop-chars (skipped r chunk) chunk h)
+
+pub finish-clean : (r : TextInput) (eof : Bool) → T (all clean (finishChars r eof))
+finish-clean r eof = finish-pass clean clean-passes r eof
+
+pub finish-chars : (r : TextInput) (eof : Bool) → areChars (finishChars r eof) ≡ true
+finish-chars r eof = from-test (finishChars r eof) (finish-pass isChar char-passes r eof)
+
+-- ---- what a run leaves alone
+abbrev Kept : TextInput → TextInput → Type 0
+Kept r next = (next .count ≡ r .count) × (next .«at_start» ≡ r .«at_start»)
+
+module _ (p : List ℕ) (o : Options) where
+  met-kept : (r : TextInput) (c : ℕ) (lead : Lead) (expect : Bool) (m : Met) → Kept r (metOf p r c lead expect m .next)
+  met-kept r c lead expect Line = (refl, refl)
+  met-kept r c lead expect (Opens s) = (refl, refl)
+  met-kept r c lead expect Other = (refl, refl)
+
+  left-kept : (r : TextInput) (c : ℕ) (l : Left) → Kept r (leftOf p o r c l .next)
+  left-kept r c (Part s) = (refl, refl)
+  left-kept r c Newline = (refl, refl)
+  left-kept r c Goes = met-kept r c Nothing (r .«expect_starter») (meetOf o c)
+  left-kept r c (After a) = met-kept r c (Char a) false (meetOf o c)
+  left-kept r c Dropped = met-kept r c Nothing false (meetOf o c)
+
+  step-kept : (r : TextInput) (c : ℕ) → Kept r (stepOf p o r c .next)
+  unfolding stepOf
+  step-kept r c = left-kept r c (leaveOf (r .state) c)
+
+  run-kept : (r : TextInput) (cs : List ℕ) → Kept r (ends p o r cs)
+  run-kept r [] = (refl, refl)
+  run-kept r (c ∷ cs) =
+      let s = step-kept r c in
+      let t = run-kept (stepOf p o r c .next) cs in (t .0 ∙ s .0, t .1 ∙ s .1)
+
+  pub count-kept : (r : TextInput) (cs : List ℕ) → ends p o r cs .count ≡ r .count
+  count-kept r cs = run-kept r cs .0
+
+  pub start-kept : (r : TextInput) (cs : List ℕ) → ends p o r cs .«at_start» ≡ r .«at_start»
+  start-kept r cs = run-kept r cs .1
+
+  pub scan-count : (r : TextInput) (chunk : List ℕ) → scanNext p o r chunk .count ≡ r .count + length chunk
+  scan-count r chunk = count-kept (opened r (length chunk)) (drop (skipped r chunk) chunk)

@@ -1,0 +1,200 @@
+-- What a run appends fits the places that its call asks for, from every record. Idea: what a record owes, a pending character or the
+-- guard of a start that is expected, is at most one character; a step, with what it leaves owed, costs at most three and what was
+-- owed before it. Assumes nothing.
+--     given-pending  what a step gives before the ground state takes its character is what was pending
+--     step-room      a step appends at most 4 characters
+--     room           a run of n characters appends at most 3 × n + 1
+--     run-room       .. and so at most the places for n characters: none for an empty run
+--     part-room      .. and so does the run without its first characters
+--     scan-room      an accepted scan appends at most the places for its chunk
+--     finish-room    a finish appends at most 2
+use Prim.Native.Nat.{ℕ, zero, suc, _+_, _*_, _≤_}
+use mathlib.Core.Path.{_≡_, refl}
+use mathlib.Core.Bool.{Bool, true, false, cond, not, _&&_}
+use mathlib.Core.List.{List, [], _∷_, _++_}
+use native.Mathlib.Omega.{arith}
+use lib.Dec.{eqb}
+use lib.ListN.{length, drop, length-append, length-drop}
+use Rattle.unicode.proofs.Kit.{split}
+use Rattle.replace.specs.declared.Replaced.{Replaced}
+use Rattle.replace.specs.Replace.{replaceOf}
+use Rattle.text_utils.specs.Classes.{basicTextStart, basicTextEnd}
+use Rattle.text_utils.proofs.Classes.{end-newline, end-space}
+use Rattle.check_char.proofs.Clean.{replaced-length}
+use Rattle.text_input.specs.declared.State.{State}
+use Rattle.text_input.specs.declared.State.the-variants.{Ground, Cr, Ff, Esc, CsiStart, Csi, Osc, Linux}
+use Rattle.text_input.specs.declared.Options.{Options}
+use Rattle.text_input.specs.declared.TextInput.{TextInput}
+use Rattle.text_input.specs.declared.step.Lead.{Lead}
+use Rattle.text_input.specs.declared.step.Lead.the-variants.{Nothing, Char}
+use Rattle.text_input.specs.declared.step.Left.{Left}
+use Rattle.text_input.specs.declared.step.Left.the-variants.{Part, Newline, Goes, After, Dropped}
+use Rattle.text_input.specs.declared.step.Met.{Met}
+use Rattle.text_input.specs.declared.step.Met.the-variants.{Line, Opens, Other}
+use Rattle.text_input.specs.declared.step.Step.{Step}
+use Rattle.text_input.specs.Sets.{parameter, final, stringEnd, upTo7F, newlineChar}
+use Rattle.text_input.specs.Step.{leadChars, imageChars, outChars, firstChar, lastOf, csiLeave, leaveOf, meetOf, guardOf, metOf, leftOf, stepOf}
+use Rattle.text_input.specs.Scan.{outs, placesFor, skipped, opened, scanChars, pendingOf, afterLine, endMarkOf, newlineOf, finishChars}
+
+-- ---- what a record owes
+abbrev bit : Bool → ℕ
+bit b = cond b 1 0
+
+-- a pending character, which a finish would give
+abbrev pending : State → ℕ
+pending s = length (leadChars (pendingOf s))
+
+abbrev owes : State → Bool → ℕ
+owes s expect = cond expect 1 (pending s)
+
+abbrev owed : TextInput → ℕ
+owed r = owes (r .state) (r .«expect_starter»)
+
+pending-one : (s : State) → pending s ≤ 1
+pending-one (Ground b) = omega arith
+pending-one Cr = omega arith
+pending-one Ff = omega arith
+pending-one Esc = omega arith
+pending-one CsiStart = omega arith
+pending-one Csi = omega arith
+pending-one Osc = omega arith
+pending-one Linux = omega arith
+
+owes-one : (s : State) (expect : Bool) → owes s expect ≤ 1
+owes-one s true = omega arith
+owes-one s false = pending-one s
+
+owes-guard : (s : State) (expect : Bool) → bit expect ≤ owes s expect
+owes-guard s true = omega arith
+owes-guard s false = omega arith
+
+owes-pending : (s : State) (expect : Bool) → pending s ≤ owes s expect
+owes-pending s true = pending-one s
+owes-pending s false = omega arith
+
+-- ---- a step: what it appends, with what it leaves owed
+abbrev cost : Step → ℕ
+cost s = length (leadChars (s .lead)) + length (imageChars (s .image)) + owes (s .next .state) (s .next .«expect_starter»)
+
+module _ (p : List ℕ) (r : TextInput) (c bound : ℕ) where
+  guard-cost : (lead : Lead) (expect : Bool) (i : Replaced) → length (leadChars lead) ≤ bound → bit expect ≤ bound →
+      length (leadChars (guardOf p lead expect i)) ≤ bound
+  guard-cost lead true i l b = split (λ (g : Lead). length (leadChars g) ≤ bound) (basicTextStart p (firstChar i)) (λ e. l) (λ e. b)
+  guard-cost lead false i l b = l
+
+  met-cost : (lead : Lead) (expect : Bool) (m : Met) → length (leadChars lead) ≤ bound → bit expect ≤ bound →
+      cost (metOf p r c lead expect m) ≤ 3 + bound
+  met-cost lead expect Line l b = omega arith
+  met-cost lead expect (Opens s) l b = omega (arith, owes-one s expect)
+  met-cost lead expect Other l b = omega (arith, guard-cost lead expect (replaceOf c) l b, replaced-length (replaceOf c) .1)
+
+-- what is given before the ground state takes c is what was pending
+abbrev pub Given : State → Left → Type 0
+Given s (Part t) = Unit {0}
+Given s Newline = Unit {0}
+Given s Goes = Unit {0}
+Given s (After a) = pendingOf s ≡ Char a
+Given s Dropped = Unit {0}
+
+csi-given : (s : State) (c : ℕ) → Given s (csiLeave c)
+csi-given s c = split (Given s) (parameter c) (λ e. tt) (λ e. split (Given s) (final c) (λ e. tt) (λ e. tt))
+
+pub given-pending : (s : State) (c : ℕ) → Given s (leaveOf s c)
+unfolding leaveOf
+given-pending (Ground b) c = tt
+given-pending Cr c = split (Given Cr) (eqb c 0x0A) (λ e. tt) (λ e. refl)
+given-pending Ff c = split (Given Ff) (eqb c 0x0C) (λ e. tt) (λ e. split (Given Ff) (newlineChar c) (λ e. tt) (λ e. refl))
+given-pending Esc c =
+    split (Given Esc) (eqb c 0x5B) (λ e. tt)
+    (λ e. split (Given Esc) (eqb c 0x5D) (λ e. tt)
+    (λ e. split (Given Esc) (eqb c 0x1B) (λ e. tt) (λ e. split (Given Esc) (final c) (λ e. tt) (λ e. tt))))
+given-pending CsiStart c = split (Given CsiStart) (eqb c 0x5B) (λ e. tt) (λ e. csi-given CsiStart c)
+given-pending Csi c = csi-given Csi c
+given-pending Osc c = split (Given Osc) (stringEnd c) (λ e. tt) (λ e. split (Given Osc) (eqb c 0x1B) (λ e. tt) (λ e. tt))
+given-pending Linux c = split (Given Linux) (upTo7F c) (λ e. tt) (λ e. tt)
+
+module _ (p : List ℕ) (o : Options) (r : TextInput) where
+  left-cost : (c : ℕ) (l : Left) → Given (r .state) l → cost (leftOf p o r c l) ≤ 3 + owed r
+  left-cost c (Part s) h = omega (arith, owes-one s (r .«expect_starter»))
+  left-cost c Newline h = omega arith
+  left-cost c Goes h =
+      met-cost p r c (owed r) Nothing (r .«expect_starter») (meetOf o c) (omega arith) (owes-guard (r .state) (r .«expect_starter»))
+  left-cost c (After a) h =
+      let one : pending (r .state) ≡ 1 = rw h in
+      met-cost p r c (owed r) (Char a) false (meetOf o c) (omega (arith, owes-pending (r .state) (r .«expect_starter»))) (omega arith)
+  left-cost c Dropped h = met-cost p r c (owed r) Nothing false (meetOf o c) (omega arith) (omega arith)
+
+  step-cost : (c : ℕ) → cost (stepOf p o r c) ≤ 3 + owed r
+  unfolding stepOf
+  step-cost c = left-cost c (leaveOf (r .state) c) (given-pending (r .state) c)
+
+out-length : (s : Step) → length (outChars s) ≡ length (leadChars (s .lead)) + length (imageChars (s .image))
+out-length s = length-append (leadChars (s .lead)) (imageChars (s .image))
+
+pub step-room : (p : List ℕ) (o : Options) (r : TextInput) (c : ℕ) → length (outChars (stepOf p o r c)) ≤ 4
+step-room p o r c =
+    omega (arith, out-length (stepOf p o r c), step-cost p o r c, owes-one (r .state) (r .«expect_starter»))
+
+-- ---- a run
+run-cost : (p : List ℕ) (o : Options) (r : TextInput) (cs : List ℕ) → length (outs p o r cs) ≤ 3 * length cs + owed r
+run-cost p o r [] = omega arith
+run-cost p o r (c ∷ cs) =
+    let s : Step = stepOf p o r c in
+    omega (
+      arith,
+      length-append (outChars s) (outs p o (s .next) cs),
+      out-length s,
+      step-cost p o r c,
+      run-cost p o (s .next) cs,
+    )
+
+pub room : (p : List ℕ) (o : Options) (r : TextInput) (cs : List ℕ) → length (outs p o r cs) ≤ 3 * length cs + 1
+room p o r cs = omega (arith, run-cost p o r cs, owes-one (r .state) (r .«expect_starter»))
+
+pub run-room : (p : List ℕ) (o : Options) (r : TextInput) (cs : List ℕ) → length (outs p o r cs) ≤ placesFor (length cs)
+run-room p o r [] = omega arith
+run-room p o r (c ∷ cs) = room p o r (c ∷ cs)
+
+-- fewer characters need no more places
+fewer : (m n : ℕ) → m ≤ n → placesFor m ≤ placesFor n
+fewer zero n h = omega arith
+fewer (suc m) zero h = omega arith
+fewer (suc m) (suc n) h = omega arith
+
+pub part-room : (p : List ℕ) (o : Options) (r : TextInput) (n : ℕ) (cs : List ℕ) →
+    length (outs p o r (drop n cs)) ≤ placesFor (length cs)
+part-room p o r n cs =
+    omega (arith, run-room p o r (drop n cs), fewer (length (drop n cs)) (length cs) (omega (arith, length-drop n cs)))
+
+pub scan-room : (p : List ℕ) (o : Options) (r : TextInput) (chunk : List ℕ) →
+    length (scanChars p o r chunk) ≤ placesFor (length chunk)
+scan-room p o r chunk = part-room p o (opened r (length chunk)) (skipped r chunk) chunk
+
+-- ---- a finish: a pending character is 0A or 20, which are ends, so that no 34F follows it
+lead-one : (l : Lead) → length (leadChars l) ≤ 1
+lead-one Nothing = omega arith
+lead-one (Char a) = omega arith
+
+tail-two : (a b : Lead) → length (leadChars a ++ leadChars b) ≤ 2
+tail-two a b = simp length-append (omega (arith, lead-one a, lead-one b))
+
+-- by the state, the last character and whether 0A is owed
+abbrev finishBy : State → ℕ → Bool → List ℕ
+finishBy s last owed =
+    leadChars (pendingOf s) ++ (leadChars (endMarkOf (lastOf last (leadChars (pendingOf s)))) ++ leadChars (newlineOf owed))
+
+after-end : (a : ℕ) (owed : Bool) → basicTextEnd a ≡ true → length (leadChars (endMarkOf a) ++ leadChars (newlineOf owed)) ≤ 1
+after-end a owed e = rw e (lead-one (newlineOf owed))
+
+finish-two : (s : State) (last : ℕ) (owed : Bool) → length (finishBy s last owed) ≤ 2
+finish-two Cr last owed = omega (arith, after-end 0x0A owed end-newline)
+finish-two Ff last owed = omega (arith, after-end 0x20 owed end-space)
+finish-two (Ground b) last owed = tail-two (endMarkOf last) (newlineOf owed)
+finish-two Esc last owed = tail-two (endMarkOf last) (newlineOf owed)
+finish-two CsiStart last owed = tail-two (endMarkOf last) (newlineOf owed)
+finish-two Csi last owed = tail-two (endMarkOf last) (newlineOf owed)
+finish-two Osc last owed = tail-two (endMarkOf last) (newlineOf owed)
+finish-two Linux last owed = tail-two (endMarkOf last) (newlineOf owed)
+
+pub finish-room : (r : TextInput) (eof : Bool) → length (finishChars r eof) ≤ 2
+finish-room r eof = finish-two (r .state) (r .last) (eof && not (afterLine (r .state)))

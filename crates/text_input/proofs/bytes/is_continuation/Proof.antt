@@ -1,0 +1,12 @@
+-- `is_continuation` meets its contract: its test is that of `continuation`.
+use mathlib.Core.Path.{refl}
+use Rattle.text_input.specs.Fill.{continuation}
+use Rattle.text_input.proofs.bytes.is_continuation.Statement.{statement}
+use Rattle.text_input.proofs.bytes.is_continuation.Tie as tie
+
+returns : tie.Need-returns
+unfolding continuation
+returns c = refl
+
+pub is-continuation-spec : {M : Type 1} → statement M
+is-continuation-spec = tie.close (tie.spec returns)

@@ -1,0 +1,40 @@
+-- `leave` meets its contract: in each state its tests are those of `leaveOf`, in the same order.
+use borrow.Author.Needs.{needs}
+use Rattle.unicode.proofs.Kit.{tests}
+use Rattle.text_input.proofs.Kit.{states}
+use Rattle.text_input.proofs.step.leave.Statement.{statement}
+use Rattle.text_input.proofs.step.leave.Tie as tie
+
+pub leave-spec : {M : Type 1} → statement M
+leave-spec =
+    tie.close
+    (tie.spec
+    (λ c. search needs)
+    (λ c. search needs)
+    (λ c. search needs)
+    (λ c κs. search needs)
+    (λ c. search needs)
+    (λ c κs. search needs)
+    (λ c. search needs)
+    (λ c κs. search needs)
+    (λ c. search needs)
+    (λ c κs. search needs)
+    (λ c. search needs)
+    (λ c κs. search needs)
+    (λ c. search needs)
+    (λ c κs. search needs)
+    (λ c. search (states, tests) depth 9)
+    (λ c. search (states, tests) depth 9)
+    (λ c. search (states, tests) depth 9)
+    (λ c. search (states, tests) depth 9)
+    (λ c. search (states, tests) depth 9)
+    (λ c. search (states, tests) depth 9)
+    (λ c. search (states, tests) depth 9)
+    (λ c. search (states, tests) depth 9)
+    (λ c. search (states, tests) depth 9)
+    (λ c. search (states, tests) depth 9)
+    (λ c. search (states, tests) depth 9)
+    (λ c. search (states, tests) depth 9)
+    (λ c. search (states, tests) depth 9)
+    (λ c. search (states, tests) depth 9)
+    (λ c. search (states, tests) depth 9))

@@ -1,0 +1,146 @@
+-- The calls: a scan of a chunk and a finish, with what they answer, the record after and the lent places after, refused or not.
+-- Document 01, "A chunk comes in", "A stream finishes" and "Refused ..". Assumes nothing.
+use Prim.Native.Nat.{ℕ, zero, suc, _+_, _*_}
+use mathlib.Core.Bool.{Bool, true, false, cond, not, _&&_, _||_}
+use mathlib.Core.List.{List, [], _∷_, _++_}
+use lib.Dec.{eqb, leb, ltb}
+use lib.ListN.{length, drop}
+use Rattle.unicode.specs.Chars.{areChars, filled}
+use Rattle.page.specs.Page.{accepted}
+use Rattle.text_utils.specs.Classes.{basicTextEnd}
+use Rattle.isolate_unassigned.specs.declared.Answer.the-variants.{Written, Refused}
+use Rattle.text_input.specs.declared.State.{State}
+use Rattle.text_input.specs.declared.State.the-variants.{Ground, Cr, Ff, Esc, CsiStart, Csi, Osc, Linux}
+use Rattle.text_input.specs.declared.Options.{Options}
+use Rattle.text_input.specs.declared.TextInput.{TextInput}
+use Rattle.text_input.specs.declared.Scanned.{Scanned}
+use Rattle.text_input.specs.declared.step.Lead.{Lead}
+use Rattle.text_input.specs.declared.step.Lead.the-variants.{Nothing, Char}
+use Rattle.text_input.specs.Step.{stepOf, outChars, leadChars, lastOf}
+
+-- "A fresh record is one as first made"; its last character is an end, so that a finish adds no 34F to an empty text
+abbrev pub fresh : TextInput
+fresh = record { state = Ground true; «expect_starter» = true; «at_start» = true; last = 0x0A; count = 0 }
+
+-- ---- a run of characters from a record
+-- what it appends
+abbrev pub outs : List ℕ → Options → TextInput → List ℕ → List ℕ
+outs p o r [] = []
+outs p o r (c ∷ cs) = outChars (stepOf p o r c) ++ outs p o (stepOf p o r c .next) cs
+
+-- the record after it
+abbrev pub ends : List ℕ → Options → TextInput → List ℕ → TextInput
+ends p o r [] = r
+ends p o r (c ∷ cs) = ends p o (stepOf p o r c .next) cs
+
+-- ---- a call's answer and record, and the lent places as it returns
+pub record Outcome : Type 0 where
+  pub given : Scanned
+  pub places : List ℕ
+
+abbrev pub outcome : Scanned → List ℕ → Outcome
+outcome given places = record { given = given; places = places }
+
+-- refused by a number: record and places as they were
+abbrev pub refused : TextInput → ℕ → List ℕ → Outcome
+refused r n queue = outcome (record { answer = Refused n; next = r }) queue
+
+-- accepted: `out` is written from the first place on, and its length is answered
+abbrev pub written : TextInput → List ℕ → List ℕ → Outcome
+written next out queue = outcome (record { answer = Written (length out); next = next }) (filled out queue)
+
+-- ---- a scan
+-- "A chunk of n characters needs 3 × n + 1 free places, an empty one none."
+abbrev pub placesFor : ℕ → ℕ
+placesFor zero = 0
+placesFor (suc n) = 3 * suc n + 1
+
+-- "Order: 2, 1, 10, 8." The number of the refusal, and 0 for none, by the record's count, whether the page is accepted, whether
+-- every value is a character, how many these are, and the free places. "10 the count would pass 4,294,967,295."
+unfoldable pub refusalOf : ℕ → Bool → Bool → ℕ → ℕ → ℕ
+refusalOf count page chars n room =
+    cond (not page) 2 (cond (not chars) 1 (cond (ltb 4294967295 (count + n)) 10 (cond (ltb room (placesFor n)) 8 0)))
+
+abbrev pub scanRefusal : TextInput → List ℕ → List ℕ → ℕ → ℕ
+scanRefusal r p chunk room = refusalOf (r .count) (accepted p) (areChars chunk) (length chunk) room
+
+-- how many characters a leading FEFF is
+abbrev pub mark : List ℕ → ℕ
+mark [] = 0
+mark (c ∷ cs) = cond (eqb c 0xFEFF) 1 0
+
+-- "U+FEFF is dropped only as the first character of the first call."
+abbrev pub skipped : TextInput → List ℕ → ℕ
+skipped r chunk = cond (r .«at_start») (mark chunk) 0
+
+-- the record of an accepted call on n characters before the first of them: the chance is spent, also by an empty chunk, and all
+-- n are counted, "dropped ones included"
+abbrev pub opened : TextInput → ℕ → TextInput
+opened r n =
+    record { state = r .state; «expect_starter» = r .«expect_starter»; «at_start» = false; last = r .last; count = r .count + n }
+
+-- what an accepted scan appends, and the record after it
+abbrev pub scanChars : List ℕ → Options → TextInput → List ℕ → List ℕ
+scanChars p o r chunk = outs p o (opened r (length chunk)) (drop (skipped r chunk) chunk)
+
+abbrev pub scanNext : List ℕ → Options → TextInput → List ℕ → TextInput
+scanNext p o r chunk = ends p o (opened r (length chunk)) (drop (skipped r chunk) chunk)
+
+unfoldable pub scanOf : TextInput → List ℕ → Options → List ℕ → List ℕ → Outcome
+scanOf r p o chunk queue =
+    cond (eqb (scanRefusal r p chunk (length queue)) 0) (written (scanNext p o r chunk) (scanChars p o r chunk) queue)
+    (refused r (scanRefusal r p chunk (length queue)) queue)
+
+-- ---- a finish: the status block of `read_with_status`
+-- "A pending 0D gives 0A, a pending page run 20, an open escape nothing."
+abbrev pub pendingOf : State → Lead
+pendingOf (Ground b) = Nothing
+pendingOf Cr = Char 0x0A
+pendingOf Ff = Char 0x20
+pendingOf Esc = Nothing
+pendingOf CsiStart = Nothing
+pendingOf Csi = Nothing
+pendingOf Osc = Nothing
+pendingOf Linux = Nothing
+
+-- "the last piece is a line end, no piece came since the last 0A so added, or there was no piece"
+abbrev pub afterLine : State → Bool
+afterLine (Ground b) = b
+afterLine Cr = true
+afterLine Ff = false
+afterLine Esc = false
+afterLine CsiStart = false
+afterLine Csi = false
+afterLine Osc = false
+afterLine Linux = false
+
+-- "If the last character ever appended is no end, 34F follows."
+abbrev pub endMarkOf : ℕ → Lead
+endMarkOf last = cond (basicTextEnd last) Nothing (Char 0x34F)
+
+-- 0A where it is owed
+abbrev pub newlineOf : Bool → Lead
+newlineOf owed = cond owed (Char 0x0A) Nothing
+
+-- "As end of file, 0A follows unless .. A push adds no 0A."
+abbrev pub finishChars : TextInput → Bool → List ℕ
+finishChars r eof =
+    leadChars (pendingOf (r .state))
+    ++ (leadChars (endMarkOf (lastOf (r .last) (leadChars (pendingOf (r .state)))))
+    ++ leadChars (newlineOf (eof && not (afterLine (r .state)))))
+
+-- "Then a start is expected again. A finish spends no chance to drop U+FEFF and leaves the count."
+abbrev pub finishNext : TextInput → Bool → TextInput
+finishNext r eof =
+    record {
+      state = Ground (eof || afterLine (r .state));
+      «expect_starter» = true;
+      «at_start» = r .«at_start»;
+      last = lastOf (r .last) (finishChars r eof);
+      count = r .count;
+    }
+
+-- "Free places needed: 2."
+unfoldable pub finishOf : TextInput → Bool → List ℕ → Outcome
+finishOf r eof queue =
+    cond (ltb (length queue) 2) (refused r 8 queue) (written (finishNext r eof) (finishChars r eof) queue)

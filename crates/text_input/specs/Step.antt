@@ -1,0 +1,116 @@
+-- One character in one state, as the `match` of `process_raw_string` in text_input.rs has it. Where the Rust goes round its inner
+-- loop, with the state set to `Ground`, the ground state takes the character here. Assumes nothing.
+use Prim.Native.Nat.{ℕ}
+use mathlib.Core.Bool.{Bool, true, false, cond}
+use mathlib.Core.List.{List, [], _∷_, _++_}
+use lib.Dec.{eqb}
+use Rattle.replace.specs.declared.Replaced.{Replaced}
+use Rattle.replace.specs.declared.Replaced.the-variants.{One, Two, Three}
+use Rattle.replace.specs.Replace.{chars, replaceOf}
+use Rattle.text_utils.specs.Classes.{basicTextStart}
+use Rattle.text_input.specs.declared.State.{State}
+use Rattle.text_input.specs.declared.State.the-variants.{Ground, Cr, Ff, Esc, CsiStart, Csi, Osc, Linux}
+use Rattle.text_input.specs.declared.Options.{Options}
+use Rattle.text_input.specs.declared.TextInput.{TextInput}
+use Rattle.text_input.specs.declared.step.Lead.{Lead}
+use Rattle.text_input.specs.declared.step.Lead.the-variants.{Nothing, Char}
+use Rattle.text_input.specs.declared.step.Image.{Image}
+use Rattle.text_input.specs.declared.step.Image.the-variants.{Empty, Chars}
+use Rattle.text_input.specs.declared.step.Left.{Left}
+use Rattle.text_input.specs.declared.step.Left.the-variants.{Part, Newline, Goes, After, Dropped}
+use Rattle.text_input.specs.declared.step.Met.{Met}
+use Rattle.text_input.specs.declared.step.Met.the-variants.{Line, Opens, Other}
+use Rattle.text_input.specs.declared.step.Step.{Step}
+use Rattle.text_input.specs.Sets.{parameter, final, stringEnd, upTo7F, newlineChar, optionalLine}
+
+-- ---- what a step appends: a lead and an image
+abbrev pub leadChars : Lead → List ℕ
+leadChars Nothing = []
+leadChars (Char a) = a ∷ []
+
+abbrev pub imageChars : Image → List ℕ
+imageChars Empty = []
+imageChars (Chars r) = chars r
+
+abbrev pub outChars : Step → List ℕ
+outChars s = leadChars (s .lead) ++ imageChars (s .image)
+
+-- the last character, after more were appended
+abbrev pub lastOf : ℕ → List ℕ → ℕ
+lastOf l [] = l
+lastOf l (x ∷ w) = lastOf x w
+
+abbrev pub firstChar : Replaced → ℕ
+firstChar (One a) = a
+firstChar (Two a b) = a
+firstChar (Three a b c) = a
+
+abbrev pub lastChar : Replaced → ℕ
+lastChar (One a) = a
+lastChar (Two a b) = b
+lastChar (Three a b c) = c
+
+-- ---- what a character does to what is pending before it
+-- `State::Esc`
+abbrev pub escLeave : ℕ → Left
+escLeave c =
+    cond (eqb c 0x5B) (Part CsiStart) (cond (eqb c 0x5D) (Part Osc) (cond (eqb c 0x1B) (Part Esc) (cond (final c) (Part (Ground false)) Goes)))
+
+-- `State::CsiStart` and `State::Csi`
+abbrev pub csiLeave : ℕ → Left
+csiLeave c = cond (parameter c) (Part Csi) (cond (final c) (Part (Ground false)) Goes)
+
+unfoldable pub leaveOf : State → ℕ → Left
+leaveOf (Ground b) c = Goes
+leaveOf Cr c = cond (eqb c 0x0A) Newline (After 0x0A)
+leaveOf Ff c = cond (eqb c 0x0C) (Part Ff) (cond (newlineChar c) Dropped (After 0x20))
+leaveOf Esc c = escLeave c
+leaveOf CsiStart c = cond (eqb c 0x5B) (Part Linux) (csiLeave c)
+leaveOf Csi c = csiLeave c
+leaveOf Osc c = cond (stringEnd c) (Part (Ground false)) (cond (eqb c 0x1B) (Part Esc) (Part Osc))
+leaveOf Linux c = cond (upTo7F c) (Part (Ground false)) Goes
+
+-- ---- what the ground state does with a character
+unfoldable pub meetOf : Options → ℕ → Met
+meetOf o c =
+    cond (eqb c 0x0A) Line (cond (eqb c 0x0D) (Opens Cr) (cond (eqb c 0x0C) (Opens Ff) (cond (eqb c 0x1B) (Opens Esc) (cond (optionalLine o c) Line Other))))
+
+-- "Prepend a CGJ if needed to guard a non-starter"
+abbrev pub guardOf : List ℕ → Lead → Bool → Replaced → Lead
+guardOf p lead expect image = cond expect (cond (basicTextStart p (firstChar image)) lead (Char 0x34F)) lead
+
+-- ---- the step
+-- it appends this, and leaves this state and expectation
+abbrev pub madeOf : TextInput → Lead → Image → State → Bool → Step
+madeOf r lead image state expect =
+    record {
+      lead = lead;
+      image = image;
+      next = record {
+        state = state;
+        «expect_starter» = expect;
+        «at_start» = r .«at_start»;
+        last = lastOf (lastOf (r .last) (leadChars lead)) (imageChars image);
+        count = r .count;
+      };
+    }
+
+-- `State::Ground`, after a lead
+abbrev pub metOf : List ℕ → TextInput → ℕ → Lead → Bool → Met → Step
+metOf p r c lead expect Line = madeOf r lead (Chars (One 0x0A)) (Ground true) false
+metOf p r c lead expect (Opens s) = madeOf r lead Empty s expect
+metOf p r c lead expect Other = madeOf r (guardOf p lead expect (replaceOf c)) (Chars (replaceOf c)) (Ground false) false
+
+abbrev pub groundOf : List ℕ → Options → TextInput → ℕ → Lead → Bool → Step
+groundOf p o r c lead expect = metOf p r c lead expect (meetOf o c)
+
+abbrev pub leftOf : List ℕ → Options → TextInput → ℕ → Left → Step
+leftOf p o r c (Part s) = madeOf r Nothing Empty s (r .«expect_starter»)
+leftOf p o r c Newline = madeOf r Nothing (Chars (One 0x0A)) (Ground true) false
+leftOf p o r c Goes = groundOf p o r c Nothing (r .«expect_starter»)
+leftOf p o r c (After a) = groundOf p o r c (Char a) false
+leftOf p o r c Dropped = groundOf p o r c Nothing false
+
+-- the step on c by the page p and the options o
+unfoldable pub stepOf : List ℕ → Options → TextInput → ℕ → Step
+stepOf p o r c = leftOf p o r c (leaveOf (r .state) c)

@@ -1,0 +1,87 @@
+-- Streams of accepted calls: chunks and finishes, and what they come to in terms of the pieces. Document 01, "A stream finishes".
+-- Assumes nothing.
+use Prim.Native.Nat.{ℕ}
+use mathlib.Core.Bool.{Bool, true, false, cond, not, _&&_}
+use mathlib.Core.List.{List, [], _∷_, _++_, flatten}
+use lib.ListN.{drop}
+use Rattle.text_utils.specs.Classes.{basicTextEnd}
+use Rattle.text_input.specs.declared.Options.{Options}
+use Rattle.text_input.specs.declared.TextInput.{TextInput}
+use Rattle.text_input.specs.Step.{lastOf}
+use Rattle.text_input.specs.Scan.{mark, scanChars, scanNext, finishChars, finishNext}
+use Rattle.text_input.specs.Pieces.{Piece, Reading, image, startMark, isLine}
+
+-- ---- the calls
+-- the chunks up to a finish, and whether it is as end of file or as a push
+pub record Section : Type 0 where
+  pub chunks : List (List ℕ)
+  pub eof : Bool
+
+-- "the queue is what successive calls wrote, joined": scans of these chunks, each on the record that the one before returned
+unfoldable pub scansChars : List ℕ → Options → TextInput → List (List ℕ) → List ℕ
+scansChars p o r [] = []
+scansChars p o r (c ∷ cs) = scanChars p o r c ++ scansChars p o (scanNext p o r c) cs
+
+-- the record after them
+unfoldable pub scansNext : List ℕ → Options → TextInput → List (List ℕ) → TextInput
+scansNext p o r [] = r
+scansNext p o r (c ∷ cs) = scansNext p o (scanNext p o r c) cs
+
+-- sections one after the other
+unfoldable pub streamChars : List ℕ → Options → TextInput → List Section → List ℕ
+streamChars p o r [] = []
+streamChars p o r (s ∷ ss) =
+    scansChars p o r (s .chunks)
+    ++ (finishChars (scansNext p o r (s .chunks)) (s .eof) ++ streamChars p o (finishNext (scansNext p o r (s .chunks)) (s .eof)) ss)
+
+unfoldable pub streamNext : List ℕ → Options → TextInput → List Section → TextInput
+streamNext p o r [] = r
+streamNext p o r (s ∷ ss) = streamNext p o (finishNext (scansNext p o r (s .chunks)) (s .eof)) ss
+
+-- ---- the text
+-- the chunk without a U+FEFF that begins it
+abbrev pub unmarked : List ℕ → List ℕ
+unmarked chunk = drop (mark chunk) chunk
+
+-- "U+FEFF is dropped only as the first character of the first call": the first chunk loses its mark, and no other
+abbrev pub unmarkedFirst : List (List ℕ) → List (List ℕ)
+unmarkedFirst [] = []
+unmarkedFirst (c ∷ cs) = unmarked c ∷ cs
+
+-- the same in a stream, whose first chunk may come after a finish: "A finish spends no chance to drop U+FEFF"
+abbrev pub unmarkedBy : List (List ℕ) → Bool → List Section → List Section → List Section
+unmarkedBy [] eof ss rest = record { chunks = []; eof = eof } ∷ rest
+unmarkedBy (c ∷ cs) eof ss rest = record { chunks = unmarked c ∷ cs; eof = eof } ∷ ss
+
+abbrev pub unmarkedStream : List Section → List Section
+unmarkedStream [] = []
+unmarkedStream (s ∷ ss) = unmarkedBy (s .chunks) (s .eof) ss (unmarkedStream ss)
+
+-- ---- what it comes to
+-- a reading for each section's text
+abbrev pub Readings : Options → List Section → List (List Piece) → Type 0
+Readings o [] [] = Unit {0}
+Readings o [] (xs ∷ xss) = ⊥
+Readings o (s ∷ ss) [] = ⊥
+Readings o (s ∷ ss) (xs ∷ xss) = Reading o (flatten (s .chunks)) xs × Readings o ss xss
+
+-- 0A is owed: a piece came since the last 0A that a finish added, and the last one is no line end
+unfoldable pub owedAfter : Bool → List Piece → Bool
+owedAfter owed [] = owed
+owedAfter owed (x ∷ xs) = owedAfter (not (isLine (x .kind))) xs
+
+-- "If the last character ever appended is no end, 34F follows."
+unfoldable pub endMarkAfter : ℕ → List ℕ → List ℕ
+endMarkAfter last w = cond (basicTextEnd (lastOf last w)) [] (0x34F ∷ [])
+
+-- a section's part of the queue: its image with 34F before a first character that is no start; then what the finish adds
+unfoldable pub sectionOf : List ℕ → ℕ → Bool → List Piece → Bool → List ℕ
+sectionOf p last owed xs eof =
+    startMark p (image xs) ++ (image xs ++ (endMarkAfter last (image xs) ++ cond (eof && owedAfter owed xs) (0x0A ∷ []) []))
+
+unfoldable pub streamOf : List ℕ → ℕ → Bool → List Section → List (List Piece) → List ℕ
+streamOf p last owed [] xss = []
+streamOf p last owed (s ∷ ss) [] = []
+streamOf p last owed (s ∷ ss) (xs ∷ xss) =
+    sectionOf p last owed xs (s .eof)
+    ++ streamOf p (lastOf last (sectionOf p last owed xs (s .eof))) (not (s .eof) && owedAfter owed xs) ss xss

@@ -1,0 +1,307 @@
+// The scanner: ports text_input.rs. A chunk of characters comes in and its cleaned characters go to the queue (`scan`), a stream
+// ends or is pushed (`finish`), and the queue is encoded into bytes (`fill`). The queue is a lent slice: each call writes from its
+// first place on. The record is a value: each call takes one and answers the one after it.
+//     step.rt    one character in one state: `process_raw_string` without its loop
+//     queue.rt   storing what a step or a finish appends
+//     bytes.rt   filling bytes
+mod bytes;
+mod queue;
+mod step;
+
+pub use bytes::Filled;
+pub use bytes::fill;
+use isolate_unassigned::Answer;
+use page::is_accepted;
+use queue::put;
+use queue::put_three;
+use step::Lead;
+use step::last_lead;
+use text_utils::is_basic_text_end;
+use unicode::BOM;
+use unicode::CGJ;
+use unicode::are_chars;
+ghost use mathlib.Core.Path.{_≡_};
+ghost use mathlib.Core.Bool.{true};
+ghost use Prim.Native.Nat.{_+_, _≤_, _<_};
+ghost use lib.Dec.{leb};
+ghost use lib.ListN.{length};
+ghost use lib.Seq.{sets};
+ghost use Rattle.unicode.specs.Chars.{filled};
+ghost use Rattle.page.specs.Page.{accepted};
+ghost use Rattle.text_input.specs.Step.{stepOf, outChars};
+ghost use Rattle.text_input.specs.Scan.{fresh, outs, ends, placesFor, refusalOf, skipped, opened, outcome, scanOf, pendingOf, afterLine, endMarkOf, newlineOf, finishOf};
+
+// What the characters so far leave open. `Ground`: nothing; its flag is true after a newline, and before the first character.
+pub enum State {
+    Ground(bool),
+    // After 0D.
+    Cr,
+    // After 0C.
+    Ff,
+    // After ESC.
+    Esc,
+    // Just after ESC `[`.
+    CsiStart,
+    // In a sequence begun by ESC `[`.
+    Csi,
+    // In a string begun by ESC `]`.
+    Osc,
+    // After ESC `[` `[`.
+    Linux,
+}
+
+// Which characters end a line beside 0A and 0D: 85; 2028 and 2029.
+pub struct Options {
+    pub nel_compatibility: bool,
+    pub lsps_compatibility: bool,
+}
+
+// The scanner's record. The options, which the Rust keeps here, come with each call.
+pub struct TextInput {
+    pub state: State,
+    // A start is expected: in a fresh record, and after a finish.
+    pub expect_starter: bool,
+    // No call has been accepted, so that a leading FEFF is dropped.
+    pub at_start: bool,
+    // The last character ever appended. Before the first it is 0A, which is an end.
+    pub last: u32,
+    // The characters taken, a dropped FEFF included.
+    pub count: u32,
+}
+
+// A call's answer, and the record after it.
+pub struct Scanned {
+    pub answer: Answer,
+    pub next: TextInput,
+}
+
+// How far the queue is written, and the record.
+pub struct Ran {
+    pub written: usize,
+    pub next: TextInput,
+}
+
+impl TextInput {
+    // The least size of a byte buffer to fill: 136.
+    pub const NORMALIZATION_BUFFER_SIZE: usize = 136;
+
+    // A record as first made.
+    pub fn new() -> Self
+        ensures { λ r. ⌜ r ≡ fresh ⌝ }
+    {
+        Self {
+            state: State::Ground(true),
+            expect_starter: true,
+            at_start: true,
+            last: 0xa,
+            count: 0,
+        }
+    }
+
+    // One character, and its output stored from a place on. Inner: asks for an accepted page and for room.
+    pub fn turn(self, page: &[u32], options: Options, c: u32, queue: &mut [u32], at: usize) -> Ran
+        requires { ⌜ accepted (now page) ≡ true ⌝ }
+        requires { ⌜ at + length (outChars (stepOf (now page) options self c)) ≤ length (now queue) ⌝ }
+        ensures written { λ r. ⌜ r .written ≡ at + length (outChars (stepOf (now (page .entry)) options self c)) ⌝ }
+        ensures next { λ r. ⌜ r .next ≡ stepOf (now (page .entry)) options self c .next ⌝ }
+        ensures places { λ r. ⌜ now (queue .exit) ≡ sets (now (queue .entry)) at (outChars (stepOf (now (page .entry)) options self c)) ⌝ }
+    {
+        let step = self.step(page, options, c);
+        let written = put(queue, at, step);
+        let next = step.next;
+        Ran { written, next }
+    }
+
+    // A run of characters, stored from the first place on. Inner: asks for an accepted page and for room. What is left of the run,
+    // from the record r on, goes to the places from k on.
+    fn run(self, page: &[u32], options: Options, chunk: &[u32], queue: &mut [u32]) -> Ran
+        requires { ⌜ accepted (now page) ≡ true ⌝ }
+        requires { ⌜ length (outs (now page) options self (now chunk)) ≤ length (now queue) ⌝ }
+        ensures written { λ r. ⌜ r .written ≡ length (outs (now (page .entry)) options self (now (chunk .entry))) ⌝ }
+        ensures next { λ r. ⌜ r .next ≡ ends (now (page .entry)) options self (now (chunk .entry)) ⌝ }
+        ensures places { λ r. ⌜ now (queue .exit) ≡ filled (outs (now (page .entry)) options self (now (chunk .entry))) (now (queue .entry)) ⌝ }
+    {
+        let mut r = self;
+        let mut k = 0;
+        let mut i = 0;
+        while i < chunk.len() {
+            let turned = r.turn(page, options, chunk[i], queue, k);
+            k = turned.written;
+            r = turned.next;
+            i += 1;
+        }
+        Ran {
+            written: k,
+            next: r,
+        }
+    }
+
+    // How many characters of the chunk are dropped: a leading FEFF, where no call was accepted before.
+    pub fn skips(self, chunk: &[u32]) -> usize
+        ensures { λ r. ⌜ r ≡ skipped self (now (chunk .entry)) ⌝ }
+    {
+        if self.at_start {
+            if 0 < chunk.len() {
+                if chunk[0] == BOM {
+                    return 1;
+                }
+            }
+        }
+        0
+    }
+
+    // The record of an accepted call on n characters, before the first of them.
+    pub fn open(self, n: u32) -> Self
+        requires { ⌜ self .count + n < 4294967296 ⌝ }
+        ensures { λ r. ⌜ r ≡ opened self n ⌝ }
+    {
+        let state = self.state;
+        Self {
+            state,
+            expect_starter: self.expect_starter,
+            at_start: false,
+            last: self.last,
+            count: self.count + n,
+        }
+    }
+
+    // Takes a chunk: cleans it into the first places of the queue, and answers how many. Total: refuses 2, 1, 10, 8, in this order,
+    // and then leaves record and places.
+    pub fn scan(self, page: &[u32], options: Options, chunk: &[u32], queue: &mut [u32]) -> Scanned
+        ensures { λ r. ⌜ outcome r (now (queue .exit)) ≡ scanOf self (now (page .entry)) options (now (chunk .entry)) (now (queue .entry)) ⌝ }
+    {
+        let no = refusal(
+            self.count,
+            is_accepted(page),
+            are_chars(chunk),
+            chunk.len(),
+            queue.len(),
+        );
+        if no == 0 {
+            let from = self.skips(chunk);
+            let r = self.open(chunk.len() as u32);
+            let ran = r.run(page, options, &chunk[from..chunk.len()], queue);
+            let next = ran.next;
+            Scanned {
+                answer: Answer::Written(ran.written),
+                next,
+            }
+        } else {
+            Scanned {
+                answer: Answer::Refused(no),
+                next: self,
+            }
+        }
+    }
+
+    // The stream is pushed, or it ends: what is pending goes to the first places of the queue, with what ends a text. Total: refuses
+    // 8 under two places, and then leaves record and places.
+    pub fn finish(self, eof: bool, queue: &mut [u32]) -> Scanned
+        ensures { λ r. ⌜ outcome r (now (queue .exit)) ≡ finishOf self eof (now (queue .entry)) ⌝ }
+    {
+        if queue.len() < 2 {
+            return Scanned {
+                answer: Answer::Refused(8),
+                next: self,
+            };
+        }
+        let state = self.state;
+        let line = after_line(state);
+        let lead = pending(state);
+        let last = last_lead(self.last, lead);
+        let mark = end_mark(last);
+        let newline = owed_newline(eof & !line);
+        let written = put_three(queue, lead, mark, newline);
+        Scanned {
+            answer: Answer::Written(written),
+            next: Self {
+                state: State::Ground(eof | line),
+                expect_starter: true,
+                at_start: self.at_start,
+                last: last_lead(last_lead(last, mark), newline),
+                count: self.count,
+            },
+        }
+    }
+}
+
+// Whether so many places are enough for n characters. The test is 3 × n + 1 ≤ room without a product that could wrap.
+fn has_room(n: usize, room: usize) -> bool
+    ensures { λ r. ⌜ r ≡ leb (placesFor n) room ⌝ }
+{
+    if n == 0 {
+        return true;
+    }
+    if room == 0 {
+        return false;
+    }
+    n <= (room - 1) / 3
+}
+
+// The number by which a scan of n characters is refused, and 0 where it is accepted: by the record's count, whether the page is
+// accepted, whether every value is a character, and the free places. Total.
+pub fn refusal(count: u32, page: bool, chars: bool, n: usize, room: usize) -> u32
+    ensures { λ r. ⌜ r ≡ refusalOf count page chars n room ⌝ }
+{
+    if !page {
+        2
+    } else if !chars {
+        1
+    } else if 4294967295 - (count as usize) < n {
+        10
+    } else if has_room(n, room) {
+        0
+    } else {
+        8
+    }
+}
+
+// What is pending gives this at a finish.
+fn pending(state: State) -> Lead
+    ensures { λ r. ⌜ r ≡ pendingOf state ⌝ }
+{
+    match state {
+        State::Ground(_) => Lead::Nothing,
+        State::Cr => Lead::Char(0xa),
+        State::Ff => Lead::Char(0x20),
+        State::Esc => Lead::Nothing,
+        State::CsiStart => Lead::Nothing,
+        State::Csi => Lead::Nothing,
+        State::Osc => Lead::Nothing,
+        State::Linux => Lead::Nothing,
+    }
+}
+
+// Whether no newline is owed: the last piece is a line end, or none came since the last newline that a finish added.
+fn after_line(state: State) -> bool
+    ensures { λ r. ⌜ r ≡ afterLine state ⌝ }
+{
+    match state {
+        State::Ground(line) => line,
+        State::Cr => true,
+        State::Ff => false,
+        State::Esc => false,
+        State::CsiStart => false,
+        State::Csi => false,
+        State::Osc => false,
+        State::Linux => false,
+    }
+}
+
+// 34F after a last character that is no end.
+fn end_mark(last: u32) -> Lead
+    ensures { λ r. ⌜ r ≡ endMarkOf last ⌝ }
+{
+    if is_basic_text_end(last) {
+        Lead::Nothing
+    } else {
+        Lead::Char(CGJ)
+    }
+}
+
+// 0A where it is owed.
+fn owed_newline(owed: bool) -> Lead
+    ensures { λ r. ⌜ r ≡ newlineOf owed ⌝ }
+{
+    if owed { Lead::Char(0xa) } else { Lead::Nothing }
+}

@@ -1,0 +1,334 @@
+// One character in one state: the `match` of `process_raw_string` in text_input.rs. What the Rust pushes to its queue is the
+// answer here: a lead, which is at most one character, and an image. A character that ends what is pending without being part of
+// it is taken by the ground state in the same step, where the Rust goes round its inner loop.
+use super::Options;
+use super::State;
+use super::TextInput;
+use replace::Replaced;
+use replace::replace;
+use text_utils::is_basic_text_start;
+use unicode::BEL;
+use unicode::CAN;
+use unicode::CGJ;
+use unicode::DEL;
+use unicode::ESC;
+use unicode::FF;
+use unicode::LS;
+use unicode::NEL;
+use unicode::PS;
+ghost use mathlib.Core.Path.{_≡_};
+ghost use mathlib.Core.Bool.{true};
+ghost use Rattle.page.specs.Page.{accepted};
+ghost use Rattle.text_input.specs.Sets.{parameter, final, stringEnd, upTo7F, newlineChar, optionalLine};
+ghost use Rattle.text_input.specs.Step.{leaveOf, escLeave, csiLeave, meetOf, firstChar, lastChar, guardOf, lastOf, leadChars, imageChars, madeOf, groundOf, stepOf};
+
+// What comes before an image: a character that was pending, or the 34F that guards the image's first character.
+pub enum Lead {
+    Nothing,
+    Char(u32),
+}
+
+// What the character itself gives.
+pub enum Image {
+    Empty,
+    Chars(Replaced),
+}
+
+// What a character does to what is pending before it.
+pub enum Left {
+    // It is part of it, which leaves this state.
+    Part(State),
+    // It is the 0A of 0D 0A.
+    Newline,
+    // Nothing is pending, or an escape that ends without it: the ground state takes it.
+    Goes,
+    // This character is given for what was pending, and then the ground state takes it.
+    After(u32),
+    // A page run ends at 0D or 0A and gives nothing, and the ground state takes it.
+    Dropped,
+}
+
+// What the ground state does with a character.
+pub enum Met {
+    // It ends a line.
+    Line,
+    // It opens this state.
+    Opens(State),
+    // It is replaced.
+    Other,
+}
+
+// What a step appends, and the record after it.
+pub struct Step {
+    pub lead: Lead,
+    pub image: Image,
+    pub next: TextInput,
+}
+
+// 20..3F.
+fn is_parameter(c: u32) -> bool
+    ensures { λ r. ⌜ r ≡ parameter c ⌝ }
+{
+    (0x20 <= c) & (c <= 0x3f)
+}
+
+// 40..7E, or CAN.
+fn is_final(c: u32) -> bool
+    ensures { λ r. ⌜ r ≡ final c ⌝ }
+{
+    (0x40 <= c) & (c <= 0x7e) | (c == CAN)
+}
+
+// BEL or CAN.
+fn is_string_end(c: u32) -> bool
+    ensures { λ r. ⌜ r ≡ stringEnd c ⌝ }
+{
+    (c == BEL) | (c == CAN)
+}
+
+// Up to 7F.
+fn up_to_del(c: u32) -> bool
+    ensures { λ r. ⌜ r ≡ upTo7F c ⌝ }
+{
+    c <= DEL
+}
+
+// 0A or 0D.
+fn is_newline_char(c: u32) -> bool
+    ensures { λ r. ⌜ r ≡ newlineChar c ⌝ }
+{
+    (c == 0xa) | (c == 0xd)
+}
+
+// 85, 2028 or 2029, where its option is on.
+fn is_optional_line(options: Options, c: u32) -> bool
+    ensures { λ r. ⌜ r ≡ optionalLine options c ⌝ }
+{
+    (c == NEL) & options.nel_compatibility | ((c == LS) | (c == PS)) & options.lsps_compatibility
+}
+
+// After ESC.
+fn leave_esc(c: u32) -> Left
+    ensures { λ r. ⌜ r ≡ escLeave c ⌝ }
+{
+    if c == 0x5b {
+        Left::Part(State::CsiStart)
+    } else if c == 0x5d {
+        Left::Part(State::Osc)
+    } else if c == ESC {
+        Left::Part(State::Esc)
+    } else if is_final(c) {
+        Left::Part(State::Ground(false))
+    } else {
+        Left::Goes
+    }
+}
+
+// In a sequence begun by ESC `[`.
+fn leave_csi(c: u32) -> Left
+    ensures { λ r. ⌜ r ≡ csiLeave c ⌝ }
+{
+    if is_parameter(c) {
+        Left::Part(State::Csi)
+    } else if is_final(c) {
+        Left::Part(State::Ground(false))
+    } else {
+        Left::Goes
+    }
+}
+
+// In each state.
+fn leave(state: State, c: u32) -> Left
+    ensures { λ r. ⌜ r ≡ leaveOf state c ⌝ }
+{
+    match state {
+        State::Ground(_) => Left::Goes,
+        State::Cr => {
+            if c == 0xa {
+                Left::Newline
+            } else {
+                Left::After(0xa)
+            }
+        }
+        State::Ff => {
+            if c == FF {
+                Left::Part(State::Ff)
+            } else if is_newline_char(c) {
+                Left::Dropped
+            } else {
+                Left::After(0x20)
+            }
+        }
+        State::Esc => leave_esc(c),
+        State::CsiStart => {
+            if c == 0x5b {
+                Left::Part(State::Linux)
+            } else {
+                leave_csi(c)
+            }
+        }
+        State::Csi => leave_csi(c),
+        State::Osc => {
+            if is_string_end(c) {
+                Left::Part(State::Ground(false))
+            } else if c == ESC {
+                Left::Part(State::Esc)
+            } else {
+                Left::Part(State::Osc)
+            }
+        }
+        State::Linux => {
+            if up_to_del(c) {
+                Left::Part(State::Ground(false))
+            } else {
+                Left::Goes
+            }
+        }
+    }
+}
+
+fn meet(options: Options, c: u32) -> Met
+    ensures { λ r. ⌜ r ≡ meetOf options c ⌝ }
+{
+    if c == 0xa {
+        Met::Line
+    } else if c == 0xd {
+        Met::Opens(State::Cr)
+    } else if c == FF {
+        Met::Opens(State::Ff)
+    } else if c == ESC {
+        Met::Opens(State::Esc)
+    } else if is_optional_line(options, c) {
+        Met::Line
+    } else {
+        Met::Other
+    }
+}
+
+fn first_char(image: Replaced) -> u32
+    ensures { λ r. ⌜ r ≡ firstChar image ⌝ }
+{
+    match image {
+        Replaced::One(a) => a,
+        Replaced::Two(a, _) => a,
+        Replaced::Three(a, _, _) => a,
+    }
+}
+
+// The lead, or 34F where a start is expected and the image begins with none. Inner: asks for an accepted page.
+fn guard(page: &[u32], lead: Lead, expect: bool, image: Replaced) -> Lead
+    requires { ⌜ accepted (now page) ≡ true ⌝ }
+    ensures { λ r. ⌜ r ≡ guardOf (now (page .entry)) lead expect image ⌝ }
+{
+    if expect {
+        if is_basic_text_start(page, first_char(image)) {
+            lead
+        } else {
+            Lead::Char(CGJ)
+        }
+    } else {
+        lead
+    }
+}
+
+// The last character appended, after a lead.
+pub fn last_lead(last: u32, lead: Lead) -> u32
+    ensures { λ r. ⌜ r ≡ lastOf last (leadChars lead) ⌝ }
+{
+    match lead {
+        Lead::Nothing => last,
+        Lead::Char(a) => a,
+    }
+}
+
+fn last_replaced(image: Replaced) -> u32
+    ensures { λ r. ⌜ r ≡ lastChar image ⌝ }
+{
+    match image {
+        Replaced::One(a) => a,
+        Replaced::Two(_, b) => b,
+        Replaced::Three(_, _, c) => c,
+    }
+}
+
+// The last character appended, after an image.
+fn last_image(last: u32, image: Image) -> u32
+    ensures { λ r. ⌜ r ≡ lastOf last (imageChars image) ⌝ }
+{
+    match image {
+        Image::Empty => last,
+        Image::Chars(r) => last_replaced(r),
+    }
+}
+
+impl TextInput {
+    // The step that appends this and leaves this state and expectation.
+    fn made(self, lead: Lead, image: Image, state: State, expect: bool) -> Step
+        ensures { λ r. ⌜ r ≡ madeOf self lead image state expect ⌝ }
+    {
+        Step {
+            lead,
+            image,
+            next: TextInput {
+                state,
+                expect_starter: expect,
+                at_start: self.at_start,
+                last: last_image(last_lead(self.last, lead), image),
+                count: self.count,
+            },
+        }
+    }
+
+    // The ground state takes a character, after a lead. Inner: asks for an accepted page.
+    fn ground(self, page: &[u32], options: Options, c: u32, lead: Lead, expect: bool) -> Step
+        requires { ⌜ accepted (now page) ≡ true ⌝ }
+        ensures { λ r. ⌜ r ≡ groundOf (now (page .entry)) options self c lead expect ⌝ }
+    {
+        match meet(options, c) {
+            Met::Line => self.made(
+                lead,
+                Image::Chars(Replaced::One(0xa)),
+                State::Ground(true),
+                false,
+            ),
+            Met::Opens(state) => self.made(lead, Image::Empty, state, expect),
+            Met::Other => {
+                let image = replace(c);
+                let guarded = guard(page, lead, expect, image);
+                self.made(guarded, Image::Chars(image), State::Ground(false), false)
+            }
+        }
+    }
+
+    // One character. Inner: asks for an accepted page.
+    pub fn step(self, page: &[u32], options: Options, c: u32) -> Step
+        requires { ⌜ accepted (now page) ≡ true ⌝ }
+        ensures { λ r. ⌜ r ≡ stepOf (now (page .entry)) options self c ⌝ }
+    {
+        let state = self.state;
+        let mut lead = Lead::Nothing;
+        let mut expect = self.expect_starter;
+        match leave(state, c) {
+            Left::Part(part) => {
+                return self.made(Lead::Nothing, Image::Empty, part, self.expect_starter);
+            }
+            Left::Newline => {
+                return self.made(
+                    Lead::Nothing,
+                    Image::Chars(Replaced::One(0xa)),
+                    State::Ground(true),
+                    false,
+                );
+            }
+            Left::Goes => {}
+            Left::After(a) => {
+                lead = Lead::Char(a);
+                expect = false;
+            }
+            Left::Dropped => {
+                expect = false;
+            }
+        }
+        self.ground(page, options, c, lead, expect)
+    }
+}
