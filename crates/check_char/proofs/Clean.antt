@@ -19,15 +19,7 @@ use Rattle.replace.specs.declared.Replaced.the-variants.{One, Two, Three}
 use Rattle.replace.specs.Table.{any}
 use Rattle.replace.specs.Replace.{chars, replaceOf, replacements}
 use Rattle.replace.proofs.Rows.{Piece, _until_, At, here, there, null, not-null, passes, finds, uncovered, covered, or-r, and-i, any-finds, other}
-use Rattle.check_char.specs.Check.{kept, refusals, reasonOf, checkNumbers}
-
--- x is accepted, or one of those that the check lists though nothing replaces them; and is no ESC
-abbrev pub clean : ℕ → Bool
-clean x = (eqb (reasonOf x) 0 || any kept x) && not (eqb x 0x1b)
-
-abbrev pub all : (ℕ → Bool) → List ℕ → Bool
-all f [] = true
-all f (x ∷ xs) = f x && all f xs
+use Rattle.check_char.specs.Check.{kept, refusals, reasonOf, checkNumbers, clean, all}
 
 line : List Piece
 line = 0 until 0x1b ∷ 0x1c until 0x110000 ∷ []

@@ -2,13 +2,13 @@
 -- `check_basic_text_char` .., with the reason as the place in `BasicTextError` counted from 1 (2 to 16; 1 is unused); reasons 2,
 -- 3, 13, 16 carry it, 16 also its one to three replacements." Assumes nothing.
 use Prim.Native.Nat.{ℕ}
-use mathlib.Core.Bool.{cond, _||_}
+use mathlib.Core.Bool.{Bool, true, cond, not, _&&_, _||_}
 use mathlib.Core.List.{List, [], _∷_}
 use lib.Dec.{eqb}
 use Rattle.unicode.specs.Chars.{isChar}
 use Rattle.replace.specs.declared.Replaced.{Replaced}
 use Rattle.replace.specs.declared.Replaced.the-variants.{One, Two, Three}
-use Rattle.replace.specs.Table.{Span, _to_, one, Row, _gives_, lookup, each}
+use Rattle.replace.specs.Table.{Span, _to_, one, Row, _gives_, lookup, each, any}
 use Rattle.replace.specs.Replace.{replaceOf}
 use Rattle.check_char.specs.declared.Replacements.{Replacements}
 use Rattle.check_char.specs.declared.BasicTextError.{BasicTextError}
@@ -71,6 +71,15 @@ refusals =
 -- the reason's number, and 0 where c is accepted
 unfoldable pub reasonOf : ℕ → ℕ
 reasonOf c = lookup refusals 0 c
+
+-- what a cleaned text may hold: x is accepted, or one of those that the check lists though nothing replaces them; and is no ESC
+abbrev pub clean : ℕ → Bool
+clean x = (eqb (reasonOf x) 0 || any kept x) && not (eqb x 0x1b)
+
+-- every number of a list passes a test
+abbrev pub all : (ℕ → Bool) → List ℕ → Bool
+all f [] = true
+all f (x ∷ xs) = f x && all f xs
 
 -- "`Box<[char]>`: three numbers and a count"
 abbrev pub listedOf : Replaced → Replacements

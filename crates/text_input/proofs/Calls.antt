@@ -12,6 +12,7 @@ use lib.Dec.{eqb, ltb, leb}
 use lib.ListN.{length, take, drop, length-drop}
 use lib.Seq.{take-all}
 use Rattle.unicode.specs.Chars.{areChars, filled}
+use Rattle.unicode.proofs.Kit.{split}
 use Rattle.page.specs.Page.{accepted}
 use Rattle.isolate_unassigned.specs.declared.Answer.the-variants.{Written}
 use Rattle.text_input.specs.declared.State.the-variants.{Ground}
@@ -40,9 +41,8 @@ mark-le (c ∷ cs) = one (eqb c 0xFEFF)
     one true = omega arith
     one false = omega arith
 
-skip-le : (f : Bool) (cs : List ℕ) → cond f (mark cs) 0 ≤ length cs
-skip-le false cs = omega arith
-skip-le true cs = mark-le cs
+skip-le : (r : TextInput) (chunk : List ℕ) → skipped r chunk ≤ length chunk
+skip-le r chunk = split (λ n. n ≤ length chunk) (r .«at_start») (λ h. mark-le chunk) (λ h. omega arith)
 
 rest : (l : List ℕ) (s : ℕ) → take (length l - s) (drop s l) ≡ drop s l
 rest l s = take-all (length l - s) (drop s l) (omega (arith, length-drop s l))
@@ -65,7 +65,7 @@ module _ (r : TextInput) (p : List ℕ) (o : Options) (chunk queue : List ℕ) (
 
     module _ (from : ℕ) (f : from ≡ skipped r chunk) where
       pub from-le : from ≤ length chunk
-      from-le = rw f (skip-le (r .«at_start») chunk)
+      from-le = rw f (skip-le r chunk)
 
       module _ (fresh : TextInput) (g : fresh ≡ opened r (length chunk)) where
         pub enough : length (outs p o fresh (take (length chunk - from) (drop from chunk))) ≤ length queue

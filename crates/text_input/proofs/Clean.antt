@@ -1,12 +1,10 @@
--- What a call appends is clean, and are characters; and what a run leaves alone. Idea: what a step appends is 0A, 20, 34F or the
+-- What a call appends is clean, and are characters. Idea: what a step appends is 0A, 20, 34F or the
 -- replacement of a character that the ground state took, which is no ESC, so that any test that these pass holds of the whole
 -- queue. Assumes nothing.
 --     other-no-escape                        the ground state never replaces ESC
---     run-clean, scan-clean, finish-clean    `clean` (check_char/proofs/Clean.antt) holds of all that is appended: accepted by the
+--     run-clean, scan-clean, finish-clean    `clean` (check_char/specs/Check.antt) holds of all that is appended: accepted by the
 --                                            check or one of those that it lists though nothing replaces them, and no ESC
 --     run-chars, scan-chars, finish-chars    all that is appended are characters
---     count-kept, start-kept                 a run leaves the count and the chance to drop FEFF
---     scan-count                             an accepted scan counts its chunk
 use Prim.Native.Nat.{ℕ, zero, suc, _+_}
 use mathlib.Core.Path.{_≡_, refl, _∙_}
 use mathlib.Core.Bool.{Bool, true, false, cond, not, _&&_}
@@ -21,8 +19,8 @@ use Rattle.replace.specs.declared.Replaced.{Replaced}
 use Rattle.replace.specs.Replace.{chars, replaceOf}
 use Rattle.replace.proofs.Rows.{and-i, and-l, and-r}
 use Rattle.text_utils.specs.Classes.{basicTextStart, basicTextEnd}
-use Rattle.check_char.specs.Check.{reasonOf}
-use Rattle.check_char.proofs.Clean.{clean, all, replaced-clean, replaced-chars}
+use Rattle.check_char.specs.Check.{reasonOf, clean, all}
+use Rattle.check_char.proofs.Clean.{replaced-clean, replaced-chars}
 use Rattle.text_input.specs.declared.State.{State}
 use Rattle.text_input.specs.declared.State.the-variants.{Ground, Cr, Ff, Esc, CsiStart, Csi, Osc, Linux}
 use Rattle.text_input.specs.declared.Options.{Options}
@@ -164,39 +162,3 @@ finish-clean r eof = finish-pass clean clean-passes r eof
 
 pub finish-chars : (r : TextInput) (eof : Bool) → areChars (finishChars r eof) ≡ true
 finish-chars r eof = from-test (finishChars r eof) (finish-pass isChar char-passes r eof)
-
--- ---- what a run leaves alone
-abbrev Kept : TextInput → TextInput → Type 0
-Kept r next = (next .count ≡ r .count) × (next .«at_start» ≡ r .«at_start»)
-
-module _ (p : List ℕ) (o : Options) where
-  met-kept : (r : TextInput) (c : ℕ) (lead : Lead) (expect : Bool) (m : Met) → Kept r (metOf p r c lead expect m .next)
-  met-kept r c lead expect Line = (refl, refl)
-  met-kept r c lead expect (Opens s) = (refl, refl)
-  met-kept r c lead expect Other = (refl, refl)
-
-  left-kept : (r : TextInput) (c : ℕ) (l : Left) → Kept r (leftOf p o r c l .next)
-  left-kept r c (Part s) = (refl, refl)
-  left-kept r c Newline = (refl, refl)
-  left-kept r c Goes = met-kept r c Nothing (r .«expect_starter») (meetOf o c)
-  left-kept r c (After a) = met-kept r c (Char a) false (meetOf o c)
-  left-kept r c Dropped = met-kept r c Nothing false (meetOf o c)
-
-  step-kept : (r : TextInput) (c : ℕ) → Kept r (stepOf p o r c .next)
-  unfolding stepOf
-  step-kept r c = left-kept r c (leaveOf (r .state) c)
-
-  run-kept : (r : TextInput) (cs : List ℕ) → Kept r (ends p o r cs)
-  run-kept r [] = (refl, refl)
-  run-kept r (c ∷ cs) =
-      let s = step-kept r c in
-      let t = run-kept (stepOf p o r c .next) cs in (t .0 ∙ s .0, t .1 ∙ s .1)
-
-  pub count-kept : (r : TextInput) (cs : List ℕ) → ends p o r cs .count ≡ r .count
-  count-kept r cs = run-kept r cs .0
-
-  pub start-kept : (r : TextInput) (cs : List ℕ) → ends p o r cs .«at_start» ≡ r .«at_start»
-  start-kept r cs = run-kept r cs .1
-
-  pub scan-count : (r : TextInput) (chunk : List ℕ) → scanNext p o r chunk .count ≡ r .count + length chunk
-  scan-count r chunk = count-kept (opened r (length chunk)) (drop (skipped r chunk) chunk)

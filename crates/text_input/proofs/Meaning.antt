@@ -1,7 +1,6 @@
 -- What the scanner means: a text and a finish, from a record in a ground state, append the image of the text's reading, with 34F
 -- before it where a start is expected and it begins with none, and then what the finish adds; and the record after is known. By
 -- induction on the reading, whose first piece is the one over which the scanner's steps go (proofs/Run.antt). Assumes nothing.
---     last-append                         the last character of joined lists
 --     ends-last, ends-start, ends-count   a run's last character; `at_start` and the count stay
 --     sectionAfter                        the image with the marks and the newline
 --     section-chars                       what a text and a finish append is this
@@ -37,6 +36,7 @@ use Rattle.text_input.specs.Scan.{outs, ends, finishChars, finishNext, a
 use Rattle.text_input.specs.Pieces.{isLine, lineChar, Piece, join, Longest, EachLongest, Reading, pieceImage, image}
 use Rattle.text_input.specs.Pieces.{startMark}
 use Rattle.text_input.specs.Streams.{owedAfter, endMarkAfter}
+use Rattle.text_input.proofs.Kit.{last-append}
 use Rattle.text_input.proofs.Cut.{Inner, cr, ff, esc, csiStart, csi, osc, linux, stateOf, kindOf, cut}
 use Rattle.text_input.proofs.Unique.{Class, opens, single, class, kindC, tailOf, longest-of, first-unique, no-piece}
 use Rattle.text_input.proofs.Run.{Closed, pre, expectAfter, guard, at, complete, told, onward, guard-line, run-cut}
@@ -45,10 +45,6 @@ use Rattle.text_input.proofs.Run.{Closed, pre, expectAfter, guard, at, 
 not-not : (b : Bool) → not (not b) ≡ b
 not-not true = refl
 not-not false = refl
-
-pub last-append : (n : ℕ) (w v : List ℕ) → lastOf n (w ++ v) ≡ lastOf (lastOf n w) v
-last-append n [] v = refl
-last-append n (x ∷ w) v = last-append x w v
 
 guard-false : (p v : List ℕ) → guard p false v ≡ v
 unfolding guard
@@ -181,7 +177,7 @@ module _ (p : List ℕ) (o : Options) (eof start : Bool) (count : ℕ) where
       ∙ rw (
         pieces-by good xs (l .1) (isLine (x .kind)) (expectAfter e w) (lastOf n w),
         guard-append p e w (image xs),
-        last-append n w (image xs),
+        ← last-append n w (image xs),
         append-assoc,
       )
 
@@ -201,7 +197,7 @@ record Keeps (r : TextInput) (s : Step) : Type 0 where
 
 made-keeps : (r : TextInput) (lead : Lead) (image : Image) (s : State) (e : Bool) → Keeps r (madeOf r lead image s e)
 made-keeps r lead image s e =
-    record { last = sym (last-append (r .last) (leadChars lead) (imageChars image)); start = refl; count = refl }
+    record { last = (last-append (r .last) (leadChars lead) (imageChars image)); start = refl; count = refl }
 
 met-keeps : (p : List ℕ) (r : TextInput) (c : ℕ) (lead : Lead) (e : Bool) (m : Met) → Keeps r (metOf p r c lead e m)
 met-keeps p r c lead e Line = made-keeps r lead (Chars (One 0x0A)) (Ground true) false
@@ -225,7 +221,7 @@ ends-last p o r (c ∷ t) =
     let s = stepOf p o r c in
     ends-last p o (s .next) t
     ∙ ap (λ n. lastOf n (outs p o (s .next) t)) (step-keeps p o r c .last)
-    ∙ sym (last-append (r .last) (outChars s) (outs p o (s .next) t))
+    ∙ (last-append (r .last) (outChars s) (outs p o (s .next) t))
 
 pub ends-start : (p : List ℕ) (o : Options) (r : TextInput) (t : List ℕ) → ends p o r t .«at_start» ≡ r .«at_start»
 ends-start p o r [] = refl
@@ -273,7 +269,7 @@ module _ (p : List ℕ) (good : accepted p ≡ true) (o : Options) (r : TextInpu
       ≡ lastOf (r .last) (sectionAfter p (r .«expect_starter») (r .last) (not b) xs eof)
   section-last t xs read eof =
       ap (λ n. lastOf n (finishChars (ends p o r t) eof)) (ends-last p o r t)
-      ∙ sym (last-append (r .last) (outs p o r t) (finishChars (ends p o r t) eof))
+      ∙ (last-append (r .last) (outs p o r t) (finishChars (ends p o r t) eof))
       ∙ ap (lastOf (r .last)) (section-chars t xs read eof)
 
   -- the record after them

@@ -5,8 +5,10 @@ use Prim.Native.Nat.{ℕ}
 use mathlib.Core.Path.{_≡_, refl}
 use mathlib.Core.Bool.{Bool, true, false, not, _&&_}
 use mathlib.Core.List.{List, [], _∷_}
-use Rattle.check_char.proofs.Clean.{all}
+use lib.Dec.{eqb}
+use Rattle.check_char.specs.Check.{all}
 use Rattle.text_input.specs.declared.Options.{Options}
+use Rattle.text_input.specs.Scan.{mark}
 use Rattle.text_input.specs.Sets.{parameter, final, stringEnd, upTo7F, newlineChar, optionalLine}
 
 abbrev pub options : Bool → Bool → Options
@@ -50,6 +52,8 @@ table =
       inside = 0x85 ∷ 0x2028 ∷ 0x2029 ∷ [];
       outside = 0x84 ∷ 0x86 ∷ 0x2027 ∷ 0x202A ∷ [];
     }
+    -- "U+FEFF is dropped", which scans and texts share too
+    ∷ record { set = λ c. eqb (mark (c ∷ [])) 1; inside = 0xFEFF ∷ []; outside = 0xFEFE ∷ 0xFF00 ∷ 0xFFFE ∷ [] }
     ∷ []
 
 abbrev pub pinned : List Row → Bool

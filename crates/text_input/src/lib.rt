@@ -140,11 +140,12 @@ impl TextInput {
     pub fn skips(self, chunk: &[u32]) -> usize
         ensures { λ r. ⌜ r ≡ skipped self (now (chunk .entry)) ⌝ }
     {
-        if self.at_start {
-            if 0 < chunk.len() {
-                if chunk[0] == BOM {
-                    return 1;
-                }
+        if !self.at_start {
+            return 0;
+        }
+        if 0 < chunk.len() {
+            if chunk[0] == BOM {
+                return 1;
             }
         }
         0

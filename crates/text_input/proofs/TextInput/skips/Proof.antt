@@ -8,6 +8,7 @@ use native.Mathlib.Omega.{arith}
 use lib.Dec.{eqb}
 use lib.ListN.{length, getD}
 use borrow.Author.Needs.{needs}
+use borrow.Author.Tests.{not-true, not-false}
 use Rattle.unicode.proofs.Kit.{tests}
 use Rattle.text_input.specs.Scan.{mark}
 use Rattle.text_input.proofs.TextInput.skips.Statement.{statement}
@@ -21,18 +22,18 @@ none : (cs : List ℕ) → length cs ≤ 0 → 0 ≡ mark cs
 none [] h = refl
 none (c ∷ cs) h = absurd (omega arith)
 
-returns : tie.Need-returns
-returns c =
-    let t = c .before .before in
-    simp (t .before .if1 .taken) (rw (← some (now (t .before .before .args .chunk)) (t .if2 .taken)) (search tests))
-
 returns-2 : tie.Need-returns-2
 returns-2 c =
     let t = c .before .before in
-    simp (t .before .if1 .taken) (rw (← some (now (t .before .before .args .chunk)) (t .if2 .taken)) (search tests))
+    simp (not-false (t .before .before .before .args .self .«at_start») (t .before .if1 .left)) (rw (← some (now (t .before .before .before .args .chunk)) (t .if2 .taken)) (search tests))
 
 returns-3 : tie.Need-returns-3
-returns-3 c = simp (c .before .if1 .taken) (none (now (c .before .before .args .chunk)) (c .if2 .left))
+returns-3 c =
+    let t = c .before .before in
+    simp (not-false (t .before .before .before .args .self .«at_start») (t .before .if1 .left)) (rw (← some (now (t .before .before .before .args .chunk)) (t .if2 .taken)) (search tests))
+
+returns-4 : tie.Need-returns-4
+returns-4 c = simp (not-false (c .before .before .before .args .self .«at_start») (c .before .if1 .left)) (none (now (c .before .before .before .args .chunk)) (c .if2 .left))
 
 pub skips-spec : {M : Type 1} → statement M
-skips-spec = tie.close (tie.spec (λ c. search needs) returns returns-2 returns-3 (λ c. simp (c .if1 .left)))
+skips-spec = tie.close (tie.spec (λ c. simp (not-true (c .before .before .args .self .«at_start») (c .if1 .taken))) (λ c. search needs) returns-2 returns-3 returns-4)
