@@ -22,7 +22,7 @@ use Rattle.text_input.specs.declared.step.Lead.{Lead}
 use Rattle.text_input.specs.Step.{leadChars, lastOf}
 use Rattle.text_input.specs.Scan.{outs, ends, placesFor, refusalOf, scanRefusal, mark, skipped, opened, outcome, refused, scanOf, pendingOf, afterLine, endMarkOf, newlineOf, finishChars, finishNext, finishOf}
 use Rattle.text_input.proofs.Kit.{last-three}
-use Rattle.text_input.proofs.Room.{part-room, finish-room}
+use Rattle.text_input.proofs.Room.{part-room, ending-room}
 
 -- ---- a scan
 -- the tests behind a refusal that is none
@@ -86,27 +86,26 @@ module _ (r : TextInput) (eof : Bool) (queue : List ℕ) where
   unfolding finishOf
   finish-refused h = rw (lt-ltb (length queue) 2 h)
 
-  module _ (room : 2 ≤ length queue) (line : Bool) (lead mark newline : Lead) (last l₂ l₃ : ℕ)
-      (h₁ : line ≡ afterLine (r .state)) (h₂ : lead ≡ pendingOf (r .state)) (h₃ : last ≡ lastOf (r .last) (leadChars lead))
-      (h₄ : mark ≡ endMarkOf last) (h₅ : newline ≡ newlineOf (eof && not line)) where
-    parts : leadChars lead ++ (leadChars mark ++ leadChars newline) ≡ finishChars r eof
-    parts = rw (h₅, h₄, h₃, h₂, h₁)
-
+  module _ (room : 2 ≤ length queue) (lead mark newline : Lead) (last : ℕ)
+      (h₁ : lead ≡ pendingOf (r .state)) (h₂ : last ≡ lastOf (r .last) (leadChars lead)) (h₃ : mark ≡ endMarkOf last) where
     pub finish-enough : length (leadChars lead ++ (leadChars mark ++ leadChars newline)) ≤ length queue
-    finish-enough = rw parts (omega (arith, finish-room r eof))
+    finish-enough = rw (h₃, h₂, h₁) (omega (arith, ending-room (r .state) (r .last) newline))
 
-    pub finished-is : l₂ ≡ lastOf last (leadChars mark) → l₃ ≡ lastOf l₂ (leadChars newline) → (k : ℕ) (q : List ℕ) →
+    pub finished-is : (line expect : Bool) (l₂ l₃ k : ℕ) (q : List ℕ) →
+        line ≡ afterLine (r .state) → newline ≡ newlineOf (eof && not line) → expect ≡ finishNext r eof .«expect_starter» →
+        l₂ ≡ lastOf last (leadChars mark) → l₃ ≡ lastOf l₂ (leadChars newline) →
         (k ≡ length (leadChars lead ++ (leadChars mark ++ leadChars newline)))
         × (q ≡ filled (leadChars lead ++ (leadChars mark ++ leadChars newline)) queue)
         → outcome
-        (record {
-          answer = Written k;
-          next = record { state = Ground (eof || line); «expect_starter» = true; «at_start» = r .«at_start»; last = l₃; count = r .count };
-        })
-        q
+            (record {
+              answer = Written k;
+              next = record { state = Ground (eof || line); «expect_starter» = expect; «at_start» = r .«at_start»; last = l₃; count = r .count };
+            })
+            q
         ≡ finishOf r eof queue
     unfolding finishOf
-    finished-is h₆ h₇ k q h =
+    finished-is line expect l₂ l₃ k q h₄ h₅ h₆ h₇ h₈ h =
+        let parts : leadChars lead ++ (leadChars mark ++ leadChars newline) ≡ finishChars r eof = rw (h₅, h₃, h₂, h₁, h₄) in
         let l : l₃ ≡ lastOf (r .last) (finishChars r eof) =
-        rw (h₇, h₆, h₃) (last-three (r .last) (leadChars lead) (leadChars mark) (leadChars newline) ∙ rw parts) in
-        rw (le-ltb (length queue) 2 room, l, h .0, h .1, parts, h₁)
+            rw (h₈, h₇, h₂) (last-three (r .last) (leadChars lead) (leadChars mark) (leadChars newline) ∙ rw parts) in
+        rw (le-ltb (length queue) 2 room, l, h .0, h .1, parts, h₄, h₆)

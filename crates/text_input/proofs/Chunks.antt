@@ -84,7 +84,7 @@ module _ (p : List ℕ) (o : Options) where
   unspent r h c = ap (λ b. drop (cond b (mark c) 0) c) h
 
   scan-outs : (r : TextInput) (c t : List ℕ) → drop (skipped r c) c ≡ t → scanChars p o r c ≡ outs p o r t
-  scan-outs r c t h = ap (outs p o (opened r (length c))) h ∙ outs-marked r false (r .count + length c) t
+  scan-outs r c t h = ap (outs p o (opened r (length c))) h ∙ outs-marked r _ _ t
 
   scan-ends : (r : TextInput) (c t : List ℕ) → drop (skipped r c) c ≡ t →
       scanNext p o r c ≡ marked (ends p o r t) false (r .count + length c)

@@ -7,7 +7,7 @@
 --     run-room       .. and so at most the places for n characters: none for an empty run
 --     part-room      .. and so does the run without its first characters
 --     scan-room      an accepted scan appends at most the places for its chunk
---     finish-room    a finish appends at most 2
+--     ending-room, finish-room   a finish appends at most 2
 use Prim.Native.Nat.{ℕ, zero, suc, _+_, _*_, _≤_}
 use mathlib.Core.Path.{_≡_, refl}
 use mathlib.Core.Bool.{Bool, true, false, cond, not, _&&_}
@@ -103,7 +103,7 @@ pub given-pending : (s : State) (c : ℕ) → Given s (leaveOf s c)
 unfolding leaveOf
 given-pending (Ground b) c = tt
 given-pending Cr c = split (Given Cr) (eqb c 0x0A) (λ e. tt) (λ e. refl)
-given-pending Ff c = split (Given Ff) (eqb c 0x0C) (λ e. tt) (λ e. split (Given Ff) (newlineChar c) (λ e. tt) (λ e. refl))
+given-pending Ff c = split (Given Ff) (eqb c 0x0C) (λ e. tt) (λ e. split (Given Ff) (newlineChar c) (λ e. search refl) (λ e. refl))
 given-pending Esc c =
     split (Given Esc) (eqb c 0x5B) (λ e. tt)
     (λ e. split (Given Esc) (eqb c 0x5D) (λ e. tt)
@@ -153,7 +153,7 @@ room p o r cs = omega (arith, run-cost p o r cs, owes-one (r .state) (r .«expec
 
 pub run-room : (p : List ℕ) (o : Options) (r : TextInput) (cs : List ℕ) → length (outs p o r cs) ≤ placesFor (length cs)
 run-room p o r [] = omega arith
-run-room p o r (c ∷ cs) = room p o r (c ∷ cs)
+run-room p o r (c ∷ cs) = omega (arith, room p o r (c ∷ cs))
 
 -- fewer characters need no more places
 fewer : (m n : ℕ) → m ≤ n → placesFor m ≤ placesFor n
@@ -178,23 +178,20 @@ lead-one (Char a) = omega arith
 tail-two : (a b : Lead) → length (leadChars a ++ leadChars b) ≤ 2
 tail-two a b = simp length-append (omega (arith, lead-one a, lead-one b))
 
--- by the state, the last character and whether 0A is owed
-abbrev finishBy : State → ℕ → Bool → List ℕ
-finishBy s last owed =
-    leadChars (pendingOf s) ++ (leadChars (endMarkOf (lastOf last (leadChars (pendingOf s)))) ++ leadChars (newlineOf owed))
+after-end : (a : ℕ) (newline : Lead) → basicTextEnd a ≡ true → length (leadChars (endMarkOf a) ++ leadChars newline) ≤ 1
+after-end a newline e = rw e (lead-one newline)
 
-after-end : (a : ℕ) (owed : Bool) → basicTextEnd a ≡ true → length (leadChars (endMarkOf a) ++ leadChars (newlineOf owed)) ≤ 1
-after-end a owed e = rw e (lead-one (newlineOf owed))
-
-finish-two : (s : State) (last : ℕ) (owed : Bool) → length (finishBy s last owed) ≤ 2
-finish-two Cr last owed = omega (arith, after-end 0x0A owed end-newline)
-finish-two Ff last owed = omega (arith, after-end 0x20 owed end-space)
-finish-two (Ground b) last owed = tail-two (endMarkOf last) (newlineOf owed)
-finish-two Esc last owed = tail-two (endMarkOf last) (newlineOf owed)
-finish-two CsiStart last owed = tail-two (endMarkOf last) (newlineOf owed)
-finish-two Csi last owed = tail-two (endMarkOf last) (newlineOf owed)
-finish-two Osc last owed = tail-two (endMarkOf last) (newlineOf owed)
-finish-two Linux last owed = tail-two (endMarkOf last) (newlineOf owed)
+-- whatever the newline is that follows
+pub ending-room : (s : State) (last : ℕ) (newline : Lead) →
+    length (leadChars (pendingOf s) ++ (leadChars (endMarkOf (lastOf last (leadChars (pendingOf s)))) ++ leadChars newline)) ≤ 2
+ending-room Cr last newline = omega (arith, after-end 0x0A newline end-newline)
+ending-room Ff last newline = omega (arith, after-end 0x20 newline end-space)
+ending-room (Ground b) last newline = tail-two (endMarkOf last) newline
+ending-room Esc last newline = tail-two (endMarkOf last) newline
+ending-room CsiStart last newline = tail-two (endMarkOf last) newline
+ending-room Csi last newline = tail-two (endMarkOf last) newline
+ending-room Osc last newline = tail-two (endMarkOf last) newline
+ending-room Linux last newline = tail-two (endMarkOf last) newline
 
 pub finish-room : (r : TextInput) (eof : Bool) → length (finishChars r eof) ≤ 2
-finish-room r eof = finish-two (r .state) (r .last) (eof && not (afterLine (r .state)))
+finish-room r eof = ending-room (r .state) (r .last) (newlineOf (eof && not (afterLine (r .state))))

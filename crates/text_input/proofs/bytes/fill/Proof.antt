@@ -4,6 +4,7 @@ use mathlib.Core.Path.{sym, _∙_}
 use native.Mathlib.Omega.{arith}
 use lib.ListN.{length}
 use borrow.Author.Needs.{needs}
+use borrow.Author.Tests.{lt-ltb}
 use Rattle.unicode.proofs.Kit.{tests}
 use Rattle.text_input.specs.Fill.{fillOf}
 use Rattle.text_input.proofs.Filling.{fits, filled-is}
@@ -18,7 +19,7 @@ clear-requires c κs =
 
 returns : tie.Need-returns
 unfolding fillOf
-returns c = search tests
+returns c = simp (lt-ltb (length (now (c .before .before .before .args .buf))) 136 (omega (arith, c .if1 .taken)))
 
 returns-2 : tie.Need-returns-2
 returns-2 c =
