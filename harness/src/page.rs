@@ -89,6 +89,12 @@ pub fn real() -> &'static (Vec<Range>, Vec<Range>) {
     REAL.get_or_init(|| (runs(|c| canonical_combining_class(c) != 0), runs(is_public_assigned)))
 }
 
+/// The real page as numbers.
+pub fn real_numbers() -> Vec<u32> {
+    let (nonstarters, assigned) = real();
+    numbers(nonstarters, assigned)
+}
+
 /// The longest ranges of characters with a property. No range holds a surrogate.
 fn runs(property: impl Fn(char) -> bool) -> Vec<Range> {
     joined((0..=LAST_CHARACTER).filter(|c| char::from_u32(*c).is_some_and(&property)))

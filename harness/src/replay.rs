@@ -98,13 +98,21 @@ impl Oracle {
             ["scan", options, places, chunk @ ..] => {
                 let (nel, lsps) = options_of(options)?;
                 let (places, chunk) = (room(places)?, numbers(chunk)?);
-                written(self.scanner.scan(self.page, nel, lsps, places, &chunk))
+                let answer = self.scanner.scan(self.page, nel, lsps, places, &chunk);
+                self.appended(answer)
             }
-            ["fin", "p", places] => written(self.scanner.finish(false, room(places)?)),
-            ["fin", "e", places] => written(self.scanner.finish(true, room(places)?)),
+            ["fin", how @ ("p" | "e"), places] => {
+                let answer = self.scanner.finish(*how == "e", room(places)?);
+                self.appended(answer)
+            }
             _ => return Err("word"),
         };
         Ok(format!("{answer} | {}", self.scanner.record()))
+    }
+
+    /// The answer of a call that appends characters to the queue, or its refusal.
+    fn appended(&self, answer: Result<usize, u32>) -> String {
+        written(answer.map(|count| self.scanner.tail(count).collect()))
     }
 
     fn writer(&mut self, words: &[&str]) -> Answer {

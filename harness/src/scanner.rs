@@ -4,6 +4,7 @@
 use super::{State, TextInput};
 use crate::words::characters;
 use crate::{is_basic_text_end, Bufferable, ReadLayered, ReadStrLayered, Status, TextReader};
+use std::fmt;
 use std::io::{self, Read};
 
 /// A stream that has no bytes and says one status.
@@ -27,10 +28,43 @@ impl ReadLayered for Source {
 
 impl ReadStrLayered for Source {}
 
-/// A scanner record. Its queue is kept whole, so that the last character ever appended is known.
+/// A scanner's record in numbers.
+#[derive(Clone, Copy)]
+pub struct Record {
+    /// As the replay protocol counts the states.
+    pub state: u32,
+    pub expect_starter: bool,
+    pub at_start: bool,
+    /// The last character ever appended; before the first it is 0A, which is an end.
+    pub last: char,
+    /// "The record holds a 32-bit count of characters taken, dropped ones included."
+    pub count: u32,
+}
+
+impl fmt::Display for Record {
+    /// As the replay protocol writes it.
+    fn fmt(&self, f: &mut fmt::Formatter<'_>) -> fmt::Result {
+        let [starts, bom, end] = [self.expect_starter, self.at_start, is_basic_text_end(self.last)].map(u8::from);
+        write!(f, "st={} es={starts} bom={bom} end={end} cnt={:x}", self.state, self.count)
+    }
+}
+
+/// The states in the order of their numbers.
+const STATES: [State; 9] = [
+    State::Ground(false),
+    State::Ground(true),
+    State::Cr,
+    State::Ff,
+    State::Esc,
+    State::CsiStart,
+    State::Csi,
+    State::Osc,
+    State::Linux,
+];
+
+/// A scanner. Its queue is kept, so that the last character ever appended is known.
 pub struct Scanner {
     reader: TextReader<Source>,
-    /// "The record holds a 32-bit count of characters taken, dropped ones included."
     pub count: u32,
 }
 
@@ -45,30 +79,32 @@ fn reader(status: Status) -> TextReader<Source> {
 }
 
 impl Scanner {
-    /// Takes a chunk. "Order: 2, 1, 10, 8."
-    pub fn scan(&mut self, page: bool, nel: bool, lsps: bool, room: usize, chunk: &[u32]) -> Result<Vec<char>, u32> {
+    /// Takes a chunk, and answers how many characters it appends. "Order: 2, 1, 10, 8."
+    pub fn scan(&mut self, page: bool, nel: bool, lsps: bool, room: usize, chunk: &[u32]) -> Result<usize, u32> {
         if !page {
             return Err(2);
         }
-        let chunk = characters(chunk).ok_or(1u32)?;
+        let characters = chunk.iter().map(|value| char::from_u32(*value));
+        if characters.clone().any(|c| c.is_none()) {
+            return Err(1);
+        }
         // "10 the count would pass 4,294,967,295"
         let taken = u32::try_from(chunk.len()).map_err(|_| 10u32)?;
         let count = self.count.checked_add(taken).ok_or(10u32)?;
-        // "A chunk of n characters needs 3 × n + 1 free places, an empty one none."
-        let needed = if chunk.is_empty() { 0 } else { 3 * chunk.len() + 1 };
-        if room < needed {
+        if room < needed(chunk) {
             return Err(8);
         }
         self.count = count;
         let input = &mut self.reader.input;
         input.nel_compatibility = nel;
         input.lsps_compatibility = lsps;
-        input.raw_string = chunk.into_iter().collect();
+        input.raw_string.clear();
+        input.raw_string.extend(characters.flatten());
         Ok(self.appended(|reader| reader.input.process_raw_string()))
     }
 
-    /// Finishes, as end of file or as a push.
-    pub fn finish(&mut self, end_of_file: bool, room: usize) -> Result<Vec<char>, u32> {
+    /// Finishes, as end of file or as a push, and answers how many characters it appends.
+    pub fn finish(&mut self, end_of_file: bool, room: usize) -> Result<usize, u32> {
         // "Free places needed: 2."
         if room < 2 {
             return Err(8);
@@ -84,31 +120,65 @@ impl Scanner {
         Ok(added)
     }
 
-    /// What a call appends to the queue.
-    fn appended(&mut self, call: impl FnOnce(&mut TextReader<Source>)) -> Vec<char> {
+    /// How many characters a call appends to the queue.
+    fn appended(&mut self, call: impl FnOnce(&mut TextReader<Source>)) -> usize {
         let before = self.reader.input.queue.len();
         call(&mut self.reader);
-        self.reader.input.queue.iter().skip(before).copied().collect()
+        self.reader.input.queue.len() - before
     }
 
-    /// The record as the replay protocol writes it.
-    pub fn record(&self) -> String {
+    /// The last `count` characters of the queue.
+    pub fn tail(&self, count: usize) -> impl Iterator<Item = char> + '_ {
+        let queue = &self.reader.input.queue;
+        queue.range(queue.len() - count..).copied()
+    }
+
+    pub fn record(&self) -> Record {
         let input = &self.reader.input;
-        let state = match input.state {
-            State::Ground(false) => 0,
-            State::Ground(true) => 1,
-            State::Cr => 2,
-            State::Ff => 3,
-            State::Esc => 4,
-            State::CsiStart => 5,
-            State::Csi => 6,
-            State::Osc => 7,
-            State::Linux => 8,
-        };
-        let starts = u8::from(input.expect_starter);
-        let bom = u8::from(input.at_start);
-        let end = u8::from(input.queue.back().is_none_or(|last| is_basic_text_end(*last)));
-        format!("st={state} es={starts} bom={bom} end={end} cnt={:x}", self.count)
+        Record {
+            state: STATES.iter().position(|state| *state == input.state).unwrap_or(0) as u32,
+            expect_starter: input.expect_starter,
+            at_start: input.at_start,
+            last: input.queue.back().copied().unwrap_or('\n'),
+            count: self.count,
+        }
+    }
+
+    /// Takes a record in the place of its own: the queue has the last character alone. A state over 8 is as 0.
+    pub fn put(&mut self, record: Record) {
+        let input = &mut self.reader.input;
+        input.state = *STATES.get(record.state as usize).unwrap_or(&STATES[0]);
+        input.expect_starter = record.expect_starter;
+        input.at_start = record.at_start;
+        input.queue.clear();
+        input.queue.push_back(record.last);
+        self.count = record.count;
+    }
+
+    /// Takes a text for `clean`.
+    pub fn load(&mut self, text: &str) {
+        self.reader.input.raw_string = text.to_owned();
+    }
+
+    /// `process_raw_string` alone, for the benchmark: on the text that is loaded, from a record as after one character. The
+    /// queue is emptied first and keeps its places. How many characters it has then.
+    pub fn clean(&mut self) -> usize {
+        let input = &mut self.reader.input;
+        input.state = State::Ground(false);
+        input.expect_starter = false;
+        input.at_start = false;
+        input.queue.clear();
+        input.process_raw_string();
+        input.queue.len()
+    }
+}
+
+/// "A chunk of n characters needs 3 × n + 1 free places, an empty one none."
+pub fn needed(chunk: &[u32]) -> usize {
+    if chunk.is_empty() {
+        0
+    } else {
+        3 * chunk.len() + 1
     }
 }
 

@@ -1,4 +1,4 @@
-// Sums over lent slices, one for each leaf: what the benchmark calls, exported for Rust. They are proved safe and promise
+// Sums over lent slices, one for each leaf, and a scan: what the benchmark calls, exported for Rust. They are proved safe and promise
 // nothing more: what they call has its contract, and the benchmark compares the sums with the Rust's.
 use check_char::Checked;
 use check_char::check_basic_text_char;
@@ -7,6 +7,9 @@ use isolate_unassigned::isolate;
 use page::is_accepted;
 use replace::Replaced;
 use replace::replace;
+use text_input::Options;
+use text_input::State;
+use text_input::TextInput;
 use text_utils::is_basic_text_end;
 use text_utils::is_basic_text_start;
 use unicode::valid_prefix;
@@ -130,4 +133,32 @@ pub extern "C" fn bench_page(page: &[u32]) -> bool {
 pub extern "C" fn bench_prefix(bytes: &[u8]) -> usize {
     let p = valid_prefix(bytes);
     p.bytes
+}
+
+// How many places of queue a chunk is scanned into, from a record that stands in text; 0 where it is refused.
+#[no_mangle]
+pub extern "C" fn bench_scan(
+    page: &[u32],
+    nel: bool,
+    lsps: bool,
+    chunk: &[u32],
+    queue: &mut [u32],
+) -> usize {
+    let r = TextInput {
+        state: State::Ground(false),
+        expect_starter: false,
+        at_start: false,
+        last: 0x61,
+        count: 1,
+    };
+    let options = Options {
+        nel_compatibility: nel,
+        lsps_compatibility: lsps,
+    };
+    let scanned = r.scan(page, options, chunk, queue);
+    let answer = scanned.answer;
+    match answer {
+        Answer::Written(n) => n,
+        Answer::Refused(_) => 0,
+    }
 }

@@ -12,6 +12,8 @@ pub enum Why {
     Many,
     Long,
     Room,
+    Options,
+    Pattern,
 }
 
 // Writes out the bytes that wait.
@@ -79,6 +81,36 @@ pub fn list(out: &mut [u8], at: usize, numbers: &[u32]) -> usize {
     end
 }
 
+// A byte as two hexadecimal digits.
+fn pair(out: &mut [u8], at: usize, b: u8) -> usize {
+    let mut digits = [0u8; 16];
+    let k = io::hex(b as u64, 2, &mut digits);
+    text(out, at, &digits[..k])
+}
+
+// Bytes as pairs of digits, or `-` where there are none.
+pub fn pairs(out: &mut [u8], at: usize, bytes: &[u8]) -> usize {
+    if bytes.len() == 0 {
+        return byte(out, at, b'-');
+    }
+    let mut end = at;
+    let mut i = 0;
+    while i < bytes.len() {
+        end = pair(out, end, bytes[i]);
+        i += 1;
+    }
+    end
+}
+
+// A name, and 0 or 1.
+pub fn flag(out: &mut [u8], at: usize, name: &[u8], is: bool) -> usize {
+    let end = text(out, at, name);
+    if is {
+        return byte(out, end, b'1');
+    }
+    byte(out, end, b'0')
+}
+
 // A refusal: `no ` and its number, in decimal.
 pub fn refusal(out: &mut [u8], at: usize, n: u32) -> usize {
     let end = text(out, at, b"no ");
@@ -100,5 +132,7 @@ pub fn refuse(out: &mut [u8], at: usize, why: Why) -> usize {
         Why::Many => text(out, at, b"? many\n"),
         Why::Long => text(out, at, b"? long\n"),
         Why::Room => text(out, at, b"? room\n"),
+        Why::Options => text(out, at, b"? options\n"),
+        Why::Pattern => text(out, at, b"? pattern\n"),
     }
 }

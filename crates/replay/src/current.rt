@@ -55,18 +55,11 @@ pub fn operate(
     out: &mut [u8],
     state: State,
 ) -> State {
-    let mut new = state;
     let Rest::At(place) = words::after(line, b"P") else {
-        new.out = answer::refuse(out, state.out, Why::Word);
-        return new;
+        return state.refuse(out, Why::Word);
     };
     match words::numbers(line, place, numbers) {
-        Stored::Bad(why) => {
-            new.out = answer::refuse(out, state.out, why);
-        }
-        Stored::All(n) => {
-            new = set(front::numbers(numbers, n), page, out, state);
-        }
+        Stored::Bad(why) => state.refuse(out, why),
+        Stored::All(n) => set(front::numbers(numbers, n), page, out, state),
     }
-    new
 }

@@ -3,6 +3,7 @@ use crate::answer;
 use crate::answer::Why;
 use crate::blank;
 use crate::front;
+use crate::lent;
 use crate::words;
 use crate::words::Rest;
 use crate::words::Single;
@@ -173,41 +174,12 @@ fn on_char(
     }
 }
 
-// `clean` or `dirty`, and the line's end: whether the places from k on are as they were.
-fn cleanliness(places: &[u32], k: usize, out: &mut [u8], at: usize) -> usize {
-    if blank::is_blank(places, k) {
-        return answer::text(out, at, b" clean\n");
-    }
-    answer::text(out, at, b" dirty\n")
-}
-
-// `no NUMBER`, and whether all places are as they were.
-fn nothing_written(places: &[u32], number: u32, out: &mut [u8], at: usize) -> usize {
-    let end = answer::refusal(out, at, number);
-    cleanliness(places, 0, out, end)
-}
-
-// `ok n=N out=LIST`, and whether the places past those are as they were.
-fn written(places: &[u32], k: usize, out: &mut [u8], at: usize) -> usize {
-    let mut end = answer::text(out, at, b"ok n=");
-    end = answer::hex(out, end, k as u64);
-    end = answer::text(out, end, b" out=");
-    end = answer::list(out, end, front::numbers(places, k));
-    cleanliness(places, k, out, end)
-}
-
 // A run isolated into blank places.
 fn isolated(page: &[u32], chars: &[u32], places: &mut [u32], out: &mut [u8], at: usize) -> usize {
     blank::make_blank(places);
     let found = isolate_unassigned::isolate(page, chars, places);
-    match found {
-        isolate_unassigned::Answer::Refused(n) => nothing_written(places, n, out, at),
-        isolate_unassigned::Answer::Written(k) => written(places, k, out, at),
-    }
-}
-
-fn size(n: u32) -> usize {
-    n as usize
+    let end = lent::outcome(found, places, out, at);
+    answer::byte(out, end, b'\n')
 }
 
 // `L isolate ROOM c c ..`, with the numbers given.
@@ -221,7 +193,7 @@ fn isolate_given(
     if given.len() == 0 {
         return answer::refuse(out, at, Why::Number);
     }
-    let room = size(given[0]);
+    let room = words::size(given[0]);
     if places.len() < room {
         return answer::refuse(out, at, Why::Room);
     }

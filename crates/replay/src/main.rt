@@ -8,13 +8,17 @@
 mod answer;
 mod blank;
 mod current;
+mod filling;
 mod front;
 mod leaves;
+mod lent;
 mod lines;
+mod scanner;
 mod words;
 
 use answer::Why;
 use libc::STDIN_FILENO;
+use text_input::TextInput;
 
 // What lasts from line to line beside the lent buffers.
 pub struct State {
@@ -24,6 +28,8 @@ pub struct State {
     pub line: usize,
     // How many bytes of answers wait in the output buffer.
     pub out: usize,
+    // The current scanner.
+    pub scanner: TextInput,
 }
 
 impl State {
@@ -32,7 +38,15 @@ impl State {
             page: current::FIRST,
             line: 0,
             out: 0,
+            scanner: TextInput::new(),
         }
+    }
+
+    // Says why a line is no operation, which changes nothing else.
+    pub fn refuse(self, out: &mut [u8], why: Why) -> Self {
+        let mut new = self;
+        new.out = answer::refuse(out, self.out, why);
+        new
     }
 }
 
@@ -52,8 +66,13 @@ fn operate(
     } else if first == b'L' {
         let now = front::numbers(page, state.page);
         new.out = leaves::operate(line, numbers, now, places, out, state.out);
+    } else if first == b'S' {
+        let now = front::numbers(page, state.page);
+        new = scanner::operate(line, numbers, now, places, out, state);
+    } else if first == b'F' {
+        new.out = filling::operate(line, numbers, out, state.out);
     } else {
-        new.out = answer::refuse(out, state.out, Why::Word);
+        new = state.refuse(out, Why::Word);
     }
     new
 }
@@ -77,8 +96,7 @@ fn end_line(
         let whole = front::bytes(line, n);
         return operate(whole, numbers, page, places, out, new);
     }
-    new.out = answer::refuse(out, new.out, Why::Long);
-    new
+    new.refuse(out, Why::Long)
 }
 
 // Takes a block of the input, and answers each line that ends in it.

@@ -1,6 +1,7 @@
 // The words and the numbers of a line, which single blanks part. A place in a line is where a word
 // ends: at the blank before the next, or at the line's end.
 use crate::answer::Why;
+use crate::lines;
 ghost use Prim.Native.Nat.{_≤_};
 
 // The place where an operation's words end, or that the line begins with others.
@@ -77,6 +78,19 @@ pub fn number(line: &[u8], from: usize) -> Value {
     Value::Is(value, i)
 }
 
+// The number after a place.
+pub fn next(line: &[u8], place: usize) -> Value {
+    if place < line.len() {
+        return number(line, place + 1);
+    }
+    Value::No
+}
+
+// A number of places or bytes.
+pub fn size(n: u32) -> usize {
+    n as usize
+}
+
 // The one number of an operation, or why there is none.
 pub enum Single {
     Is(u32),
@@ -85,11 +99,9 @@ pub enum Single {
 
 // The number from a place to the line's end.
 pub fn one_number(line: &[u8], place: usize) -> Single {
-    if place < line.len() {
-        if let Value::Is(value, end) = number(line, place + 1) {
-            if end == line.len() {
-                return Single::Is(value);
-            }
+    if let Value::Is(value, end) = next(line, place) {
+        if end == line.len() {
+            return Single::Is(value);
         }
     }
     Single::Bad(Why::Number)
@@ -134,4 +146,52 @@ pub fn bytes(numbers: &[u32], out: &mut [u8]) -> Stored {
         i += 1;
     }
     Stored::All(i)
+}
+
+// The byte that two digits from an index on make, 100 where they are none.
+fn pair(line: &[u8], from: usize) -> u32 {
+    if line.len() <= from {
+        return 0x100;
+    }
+    if line.len() <= from + 1 {
+        return 0x100;
+    }
+    let high = digit(line[from]);
+    let low = digit(line[from + 1]);
+    if high > 15 {
+        return 0x100;
+    }
+    if low > 15 {
+        return 0x100;
+    }
+    high * 16 + low
+}
+
+// How many bytes a word of pairs of digits has, where more than there is room for are one more than
+// that, and the place where it ends; or that none stands there.
+pub enum Paired {
+    Is(usize, usize),
+    No,
+}
+
+// Stores the bytes of the word whose first digit is at index from, as far as there is room: not an
+// empty word, one with another byte than a digit, or one with an odd number of them.
+pub fn pairs(line: &[u8], from: usize, out: &mut [u8]) -> Paired {
+    let mut n = 0;
+    let mut i = from;
+    while i < line.len() {
+        if line[i] == b' ' {
+            break;
+        }
+        let b = pair(line, i);
+        if b > 0xff {
+            return Paired::No;
+        }
+        n = lines::push(out, n, b as u8);
+        i += 2;
+    }
+    if n == 0 {
+        return Paired::No;
+    }
+    Paired::Is(n, i)
 }

@@ -97,15 +97,15 @@ module _ (r : TextInput) (eof : Bool) (queue : List ℕ) where
         (k ≡ length (leadChars lead ++ (leadChars mark ++ leadChars newline)))
         × (q ≡ filled (leadChars lead ++ (leadChars mark ++ leadChars newline)) queue)
         → outcome
-            (record {
-              answer = Written k;
-              next = record { state = Ground (eof || line); «expect_starter» = expect; «at_start» = r .«at_start»; last = l₃; count = r .count };
-            })
-            q
+        (record {
+          answer = Written k;
+          next = record { state = Ground (eof || line); «expect_starter» = expect; «at_start» = r .«at_start»; last = l₃; count = r .count };
+        })
+        q
         ≡ finishOf r eof queue
     unfolding finishOf
     finished-is line expect l₂ l₃ k q h₄ h₅ h₆ h₇ h₈ h =
         let parts : leadChars lead ++ (leadChars mark ++ leadChars newline) ≡ finishChars r eof = rw (h₅, h₃, h₂, h₁, h₄) in
         let l : l₃ ≡ lastOf (r .last) (finishChars r eof) =
-            rw (h₈, h₇, h₂) (last-three (r .last) (leadChars lead) (leadChars mark) (leadChars newline) ∙ rw parts) in
+        rw (h₈, h₇, h₂) (last-three (r .last) (leadChars lead) (leadChars mark) (leadChars newline) ∙ rw parts) in
         rw (le-ltb (length queue) 2 room, l, h .0, h .1, parts, h₄, h₆)

@@ -284,7 +284,8 @@ impl TextInput {
         requires { ⌜ accepted (now page) ≡ true ⌝ }
         ensures { λ r. ⌜ r ≡ groundOf (now (page .entry)) options self c lead expect ⌝ }
     {
-        match meet(options, c) {
+        let met = meet(options, c);
+        match met {
             Met::Line => self.made(
                 lead,
                 Image::Chars(Replaced::One(0xa)),
@@ -308,7 +309,8 @@ impl TextInput {
         let state = self.state;
         let mut lead = Lead::Nothing;
         let mut expect = self.expect_starter;
-        match leave(state, c) {
+        let left = leave(state, c);
+        match left {
             Left::Part(part) => {
                 return self.made(Lead::Nothing, Image::Empty, part, self.expect_starter);
             }

@@ -1,8 +1,8 @@
 //! What the scripts of calls draw from: characters that matter to the scanner and the writer, values that are no
 //! characters, pages, and numbers of places.
 
-use super::{page_line, pages, real_page_line};
-use crate::page::numbers;
+use super::pages;
+use crate::page::{numbers, real_numbers};
 use crate::random::Random;
 
 /// Values that are no characters, at the edges.
@@ -36,19 +36,19 @@ pub fn run(random: &mut Random, most: usize) -> Vec<u32> {
 }
 
 /// A page: that of the start, one that is right, seldom one that is wrong or the real one.
-pub fn page(random: &mut Random) -> String {
+pub fn page(random: &mut Random) -> Vec<u32> {
     match random.below(16) {
-        0 => page_line(&[0, 0]),
-        1 => real_page_line(),
-        2..=4 => "P 0 1 0 377".to_owned(),
+        0 => vec![0, 0],
+        1 => real_numbers(),
+        2..=4 => vec![0, 1, 0, 0x377],
         // 1A unassigned; 61 a nonstarter; marks nonstarters and all assigned; little assigned.
-        5 => "P 0 2 0 1b 19 377".to_owned(),
-        6 => "P 1 1 61 0 61 377".to_owned(),
-        7..=10 => "P 2 1 300 370 0 34e 3ff 10ffff".to_owned(),
-        11 => "P 0 2 a 34f a 34f".to_owned(),
+        5 => vec![0, 2, 0, 0x1B, 0x19, 0x377],
+        6 => vec![1, 1, 0x61, 0, 0x61, 0x377],
+        7..=10 => vec![2, 1, 0x300, 0x370, 0, 0x34E, 0x3FF, 0x10FFFF],
+        11 => vec![0, 2, 0x0A, 0x34F, 0x0A, 0x34F],
         _ => {
             let (nonstarters, assigned) = pages::random_right(random);
-            page_line(&numbers(&nonstarters, &assigned))
+            numbers(&nonstarters, &assigned)
         }
     }
 }

@@ -1,22 +1,28 @@
-//! The cases that document 01 names, and its corners, as one fixed script. Each stands under its name.
+//! The cases that document 01 names for the leaves, the scanner and filling, its corners, and the original's own tests,
+//! as one fixed script. Each stands under its name.
+
+use super::operation;
 
 /// A case: its name, and its operations.
-type Case = (&'static str, &'static [&'static str]);
+pub type Case = (&'static str, &'static [&'static str]);
 
-/// The script. It opens with the page of the start.
 pub fn script() -> Vec<String> {
+    let mut lines = under_names(&[&CHECKED[..], &RUN, &WRONG, &LEAVES, &SCANS, &TESTS].concat());
+    lines.extend(long_queues());
+    lines
+}
+
+/// The cases after the page of the start.
+pub fn under_names(cases: &[Case]) -> Vec<String> {
     let mut lines = vec![FIRST_PAGE.to_owned()];
-    for (name, operations) in [&CHECKED[..], &RUN, &WRONG, &LEAVES, &SCANS, &WRITES].concat() {
+    for (name, operations) in cases {
         lines.push(format!("# {name}"));
         lines.extend(operations.iter().map(|line| line.to_string()));
-    }
-    for held in [63, 64, 65] {
-        lines.extend(color(held));
     }
     lines
 }
 
-const FIRST_PAGE: &str = "P 0 1 0 377";
+pub const FIRST_PAGE: &str = "P 0 1 0 377";
 
 /// "Checked by hand", 1 to 12.
 const CHECKED: [Case; 12] = [
@@ -34,7 +40,7 @@ const CHECKED: [Case; 12] = [
     ("12", &["L isolate 5 378 61", "L isolate 4 378 61"]),
 ];
 
-/// "Run:" of the same section; the color escapes stand at the end.
+/// "Run:" of the same section; the color escapes are the writer's.
 const RUN: [Case; 3] = [
     ("135 and 136 bytes", &["F 87 80 61", "F 88 80 61", "F 87 80 d800", "F 88 80 d800", "F 88 80", "F 88 8061 e9"]),
     ("FEFF 61", &["S new", "S scan 0 7 feff 61", "S fin e 2"]),
@@ -161,135 +167,23 @@ const SCANS: [Case; 8] = [
     ),
 ];
 
-const WRITES: [Case; 12] = [
+/// The tests of text_input.rs. In the first the queue stands where the test has 7 7. In the second the buffer begins with
+/// the byte that is asked: unless it is a boundary, the 80 after it is zeroed too.
+const TESTS: [Case; 2] = [
+    ("test_clear_to_char_boundary", &["F 88 0707808007 7 7"]),
     (
-        "modes",
-        &[
-            "W new plain",
-            "W new bom",
-            "W chars 3 a",
-            "W new crlf",
-            "W chars 6 61 a",
-            "W close",
-            "W new color",
-            "W chars c 1b 5b 31 6d",
-            "W flush",
-            "W close",
-            "W close",
-        ],
-    ),
-    (
-        "an empty write spends the expectation of a start",
-        &[
-            "W new plain",
-            "W chars 3 301",
-            "W new plain",
-            FIRST_PAGE,
-            "W chars 0",
-            "W chars 3 301",
-            "W flush",
-            "W abandon",
-        ],
-    ),
-    (
-        "5 keeps all and spends the expectation",
-        &[
-            "P 1 1 300 0 34e 377",
-            "W new plain",
-            "W chars 6 301 61",
-            "W chars 4 a",
-            "W chars 5 a",
-            "W close",
-            FIRST_PAGE,
-        ],
-    ),
-    ("kept after 4", &["W new plain", "W chars 9 61 62 7f", "W places 4", "W chars 4 a", "W chars 5 a", "W places 4"]),
-    ("a put 34F stays kept", &["W new plain", "W chars 6 378 7f", "W chars 6 a"]),
-    ("1A unassigned", &["P 0 2 0 1b 19 377", "W new plain", "W chars 3 7f", "W chars 4 a", FIRST_PAGE]),
-    ("0D 0A stay kept", &["W new crlf", "W chars 9 61 a 7f", "W chars 6 a"]),
-    (
-        "an escape in progress is not kept",
-        &[
-            "W new color",
-            "W chars c 61 1b 5b 41",
-            "W chars 9 1b 5b",
-            "W chars 5 7f",
-            "W chars 3 1b",
-            "W flush",
-            "W close",
-        ],
-    ),
-    (
-        "bytes",
-        &[
-            "W new plain",
-            "W bytes 0 ff",
-            "W bytes 3 61 ff",
-            "W bytes 3 e9",
-            "W bytes 2 c3 a9",
-            "W bytes 3 c3 a9 a",
-            "W bytes 0",
-            "W bytes 3 a ff",
-        ],
-    ),
-    (
-        "flush and close after a non-end",
-        &[
-            "P 0 1 0 10ffff",
-            "W new plain",
-            "W chars 3 600",
-            "W flush",
-            "W chars 3 600",
-            "W close",
-            "W close",
-            "W chars 3 61",
-            "W flush",
-            "W close",
-            FIRST_PAGE,
-        ],
-    ),
-    (
-        "false claims",
-        &[
-            "W new plain",
-            "W held 1",
-            "W chars 0",
-            "W flush",
-            "W close",
-            "W held ffffffff",
-            "W bytes 0 ff",
-            "W held -",
-            "W chars 3 a",
-            "W held 41",
-            "W abandon",
-            "W close",
-        ],
-    ),
-    (
-        "9 before 2, 2 before 1, 1 before 8, 3 before 8",
-        &[
-            "W new plain",
-            "P 0 0",
-            "W held 1",
-            "W chars 0 d800",
-            "W held -",
-            "W chars 0 d800",
-            "W bytes 0 ff",
-            FIRST_PAGE,
-            "W chars 0 d800",
-            "W chars 0 61",
-            "W bytes 0 ff",
-        ],
+        "test_is_char_boundary",
+        &["F 88 0080", "F 88 4180", "F 88 7f80", "F 88 8080", "F 88 bf80", "F 88 c080", "F 88 cf80", "F 88 ff80"],
     ),
 ];
 
-/// A color escape of so many characters, `m` the last: "color escapes of 64 and 65".
-fn color(length: usize) -> [String; 4] {
-    let inside = " 30".repeat(length - 3);
-    [
-        format!("# a color escape of {length}"),
-        "W new color".to_owned(),
-        format!("W chars {:x} 1b 5b{inside} 6d", 3 * length),
-        "W chars 3 a".to_owned(),
-    ]
+/// Queues of more characters than the buffer has bytes, of characters of each length, at the least buffer and beside it.
+fn long_queues() -> Vec<String> {
+    let mut lines = vec!["# queues longer than the buffer".to_owned()];
+    for length in [135, 136, 137, 140] {
+        for c in [0x61, 0xE9, 0x20AC, 0x1F600] {
+            lines.push(operation(&format!("F {length:x} 80bf61"), (0..=length).map(|_| c)));
+        }
+    }
+    lines
 }

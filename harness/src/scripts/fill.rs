@@ -14,10 +14,19 @@ fn call(random: &mut Random) -> String {
     let length = match random.below(8) {
         0 => random.pick(&[0, 1, 4, 134, 135, 135]),
         1 | 2 => 136,
+        3 => random.pick(&[137, 139, 140, 141, 300]),
         _ => random.between(136, 150),
     };
     let queue = queue(random, length as usize);
-    operation(&format!("F {length:x} {}", random.pick(&PATTERNS)), queue)
+    operation(&format!("F {length:x} {}", pattern(random)), queue)
+}
+
+/// One of the list, or some bytes at the edges of the continuation bytes.
+fn pattern(random: &mut Random) -> String {
+    if random.once_in(2) {
+        return random.pick(&PATTERNS).to_owned();
+    }
+    (0..random.between(1, 9)).map(|_| random.pick(&["80", "80", "9f", "bf", "bf", "7f", "c0", "00"])).collect()
 }
 
 /// Characters of one length or of all, few or about as many as fit.
@@ -42,7 +51,7 @@ fn queue(random: &mut Random, room: usize) -> Vec<u32> {
         })
         .collect();
     if length > 0 && random.once_in(20) {
-        values[random.below(length)] = random.pick(&[0xD800, 0xDFFF, 0x110000, 0xFFFF_FFFF]);
+        values[random.below(length)] = random.pick(&alphabet::NO_CHARACTERS);
     }
     if random.once_in(10) {
         values.truncate(4);

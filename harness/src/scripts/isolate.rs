@@ -22,7 +22,7 @@ pub fn script(random: &mut Random, count: usize) -> Vec<String> {
         lines.push(match random.below(30) {
             0 => right_page(random, &mut edges),
             // Others, a wrong one and the real one among them.
-            1 if random.once_in(4) => alphabet::page(random),
+            1 if random.once_in(4) => page_line(&alphabet::page(random)),
             _ => isolation(random, &edges),
         });
     }

@@ -1,6 +1,6 @@
 //! The entries on one character, at every place where an answer changes from one character to the next.
 
-use super::{alphabet, operation};
+use super::{alphabet, operation, page_line};
 use crate::leaves::{check, end, replacement, start};
 use crate::page::LAST_CHARACTER;
 use crate::properties;
@@ -14,7 +14,7 @@ pub fn script(random: &mut Random, count: usize) -> Vec<String> {
     let mut lines = Vec::new();
     while lines.len() < count {
         lines.push(match random.below(61) {
-            0 => alphabet::page(random),
+            0 => page_line(&alphabet::page(random)),
             at if at % 2 == 0 => operation(random.pick(&["L replace", "L check"]), [value(random, &conversions)]),
             _ => operation(random.pick(&["L start", "L end"]), [value(random, &classes)]),
         });

@@ -1,6 +1,6 @@
 //! Scripts of the replay protocol, made from a seed: one kind of script to a module.
 
-mod alphabet;
+pub mod alphabet;
 pub mod cases;
 pub mod every;
 pub mod fill;
@@ -11,19 +11,20 @@ pub mod sample;
 pub mod scan;
 pub mod utf8;
 pub mod write;
+pub mod write_cases;
 
-use crate::page::{numbers, real};
+use crate::page::real_numbers;
 use crate::random::Random;
 
 /// The kinds of script.
-pub const KINDS: [&str; 10] =
-    ["cases", "pages", "utf8", "leaves", "every", "isolate", "scan", "fill", "write", "sample"];
+pub const KINDS: [&str; 11] =
+    ["cases", "pages", "utf8", "leaves", "every", "isolate", "scan", "fill", "write-cases", "write", "sample"];
 
 /// The lines of a script.
 pub type Lines = Box<dyn Iterator<Item = String>>;
 
-/// `count` operations of a kind; none if there is no such kind. `cases` is whole whatever the count, in `every` the count
-/// is a step, one character in so many, and in `sample` it is that of the random ones.
+/// `count` operations of a kind; none if there is no such kind. `cases` and `write-cases` are whole whatever the count, in
+/// `every` the count is a step, one character in so many, and in `sample` it is that of the random ones.
 pub fn script(kind: &str, seed: u64, count: usize) -> Option<Lines> {
     if kind == "every" {
         return Some(Box::new(every::script(seed, count)));
@@ -43,6 +44,7 @@ fn drawn(kind: &str, seed: u64, count: usize) -> Option<Vec<String>> {
         "isolate" => isolate::script(random, count),
         "scan" => scan::script(random, count),
         "fill" => fill::script(random, count),
+        "write-cases" => write_cases::script(),
         "write" => write::script(random, count),
         "sample" => sample::script(random, count),
         _ => return None,
@@ -57,8 +59,7 @@ pub fn page_line(numbers: &[u32]) -> String {
 
 /// The operation of the real page.
 pub fn real_page_line() -> String {
-    let (nonstarters, assigned) = real();
-    page_line(&numbers(nonstarters, assigned))
+    page_line(&real_numbers())
 }
 
 /// The operation that decodes bytes.

@@ -1,26 +1,59 @@
 //! Lists of calls on a scanner: chunks of every cut, options that change, finishes, refusals between them, and counts at
 //! the limit.
 
-use super::{alphabet, operation};
+use super::{alphabet, operation, page_line, pages};
+use crate::page::Page;
 use crate::random::Random;
+use crate::text_input::scanner::needed;
 
 pub fn script(random: &mut Random, count: usize) -> Vec<String> {
-    let mut lines = Vec::new();
+    let mut lines = vec!["S new".to_owned()];
     while lines.len() < count {
-        lines.push(call(random));
+        lines.extend(calls(random));
+    }
+    lines.truncate(count);
+    lines
+}
+
+fn calls(random: &mut Random) -> Vec<String> {
+    match random.below(60) {
+        0..=4 => vec!["S new".to_owned()],
+        5 => pages_between(random),
+        6 => at_limit(random),
+        7 => vec![format!("S count {:x}", random.below(8))],
+        8..=14 => vec![finish(random)],
+        _ => {
+            let chunk = chunk(random);
+            vec![scan(random, &chunk)]
+        }
+    }
+}
+
+/// A page, a wrong one more often than elsewhere.
+pub fn page(random: &mut Random) -> Vec<u32> {
+    if random.once_in(4) {
+        pages::random_page(random)
+    } else {
+        alphabet::page(random)
+    }
+}
+
+/// A page. A wrong one is current for one call.
+fn pages_between(random: &mut Random) -> Vec<String> {
+    let page = page(random);
+    let mut lines = vec![page_line(&page)];
+    if Page::read(&page).is_none() {
+        let chunk = chunk(random);
+        lines.extend([scan(random, &chunk), "P 0 1 0 377".to_owned()]);
     }
     lines
 }
 
-fn call(random: &mut Random) -> String {
-    match random.below(60) {
-        0..=4 => "S new".to_owned(),
-        5 => alphabet::page(random),
-        6 => format!("S count {:x}", 0xFFFF_FFFF - random.below(8)),
-        7 => format!("S count {:x}", random.below(8)),
-        8..=14 => finish(random),
-        _ => scan(random),
-    }
+/// A count that a chunk takes to its limit or one past it.
+fn at_limit(random: &mut Random) -> Vec<String> {
+    let chunk = [vec![0x61], chunk(random)].concat();
+    let count = u32::MAX - chunk.len() as u32 + random.between(0, 1);
+    vec![format!("S count {count:x}"), scan(random, &chunk), format!("S count {:x}", random.below(8))]
 }
 
 fn finish(random: &mut Random) -> String {
@@ -28,29 +61,30 @@ fn finish(random: &mut Random) -> String {
     format!("S fin {how} {:x}", random.pick(&[0, 1, 2, 2, 2, 2, 3, 9]))
 }
 
-fn scan(random: &mut Random) -> String {
-    let chunk = chunk(random);
-    let needed = if chunk.is_empty() { 0 } else { 3 * chunk.len() + 1 };
+fn scan(random: &mut Random, chunk: &[u32]) -> String {
     let options = random.between(0, 3);
-    let room = alphabet::room(random, needed);
-    operation("S scan", [options, room].into_iter().chain(chunk))
+    let room = alphabet::room(random, needed(chunk));
+    operation("S scan", [options, room].into_iter().chain(chunk.iter().copied()))
 }
 
-fn chunk(random: &mut Random) -> Vec<u32> {
+/// The scanner's own characters, and bounds of the ranges that it asks for.
+const OWN: [u32; 22] = [
+    0x0A, 0x0D, 0x0C, 0x1B, 0x5B, 0x5D, 0x07, 0x18, 0x1F, 0x20, 0x31, 0x3F, 0x40, 0x6D, 0x7E, 0x7F, 0x80, 0xFEFF, 0x85,
+    0x2028, 0x2029, 0x61,
+];
+
+pub fn chunk(random: &mut Random) -> Vec<u32> {
     match random.below(8) {
         // An escape with something in it, whole or open.
         0 => {
             let open: &[u32] =
                 random.pick(&[&[0x1B][..], &[0x1B, 0x5B], &[0x1B, 0x5B, 0x5B], &[0x1B, 0x5D], &[0x1B, 0x5B, 0x31]]);
-            [open, &alphabet::run(random, 6)].concat()
+            [open, &alphabet::run(random, 4)].concat()
         }
-        // The scanner's own characters alone.
-        1 | 2 => {
-            let own =
-                [0x0A, 0x0D, 0x0C, 0x1B, 0x5B, 0x5D, 0x07, 0x18, 0x31, 0x6D, 0x7F, 0x80, 0xFEFF, 0x85, 0x2028, 0x61];
-            (0..random.below(6)).map(|_| random.pick(&own)).collect()
-        }
-        3 => [vec![0xFEFF], alphabet::run(random, 4)].concat(),
+        // One character, which keeps a state open over many chunks.
+        1 => vec![random.pick(&OWN)],
+        2 | 3 => (0..random.below(6)).map(|_| random.pick(&OWN)).collect(),
+        4 => [vec![0xFEFF], alphabet::run(random, 4)].concat(),
         _ => alphabet::run(random, 9),
     }
 }

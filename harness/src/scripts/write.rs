@@ -1,7 +1,7 @@
 //! Lists of calls on a writer in each mode: characters and bytes, escapes up to their limit, refusals and what stays
 //! kept after them, false claims of held characters. The oracle runs along, so that rooms stand at what is needed.
 
-use super::{alphabet, operation, utf8};
+use super::{alphabet, operation, page_line, utf8};
 use crate::leaves::valid_prefix;
 use crate::random::Random;
 use crate::replay::Oracle;
@@ -65,7 +65,7 @@ fn call(random: &mut Random, known: &Known) -> String {
     }
     match random.below(60) {
         0..=2 => format!("W new {}", random.pick(&["plain", "crlf", "bom", "color", "color"])),
-        3 => alphabet::page(random),
+        3 => page_line(&alphabet::page(random)),
         4..=10 => "W flush".to_owned(),
         11..=13 => "W close".to_owned(),
         14 => "W abandon".to_owned(),

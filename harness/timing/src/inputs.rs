@@ -18,25 +18,42 @@ const LATIN: &str = "Portez ce vieux whisky au juge blond qui fume sur son île 
 const DEVANAGARI: &str = "सभी मनुष्यों को गौरव और अधिकारों के मामले में जन्मजात स्वतन्त्रता और समानता प्राप्त है। उन्हें बुद्धि और \
     अन्तरात्मा की देन प्राप्त है और परस्पर उन्हें भाईचारे के भाव से बर्ताव करना चाहिए।";
 
-/// The inputs with their names.
-pub fn inputs() -> [(&'static str, Vec<char>); 5] {
+/// Characters of which nearly each takes another way through the scanner.
+const AWKWARD: &str = "a\n\r\u{C}\u{1B}[]\u{7}\u{18}1mH \u{E9}\u{301}\u{200D}\u{FB03}\u{2028}\u{85}\u{FEFF}\u{2126}\
+    \u{378}\u{34F}\u{600}\u{903}\u{1F3FB}\u{10FFFF}\u{7F}@?~\t";
+
+/// An input: its name and its characters.
+pub type Input = (&'static str, Vec<char>);
+
+/// The inputs of the leaves.
+pub fn inputs() -> [Input; 5] {
     let random = &mut Random::new(5);
     [
-        ("ASCII", words(random, ASCII)),
-        ("Latin", words(random, LATIN)),
+        ("ASCII", words(random, ASCII, "\n")),
+        ("Latin", words(random, LATIN, "\n")),
         ("CJK", characters(|| cjk(random))),
-        ("Devanagari", words(random, DEVANAGARI)),
+        ("Devanagari", words(random, DEVANAGARI, "\n")),
         ("random", characters(|| between(random, 0, 0x10FFFF))),
     ]
 }
 
+/// The inputs of the scanner.
+pub fn scan_inputs() -> [Input; 5] {
+    let random = &mut Random::new(6);
+    let [ascii, _, cjk, devanagari, _] = inputs();
+    let latin = ("Latin CRLF", words(random, LATIN, "\r\n"));
+    let list: Vec<char> = AWKWARD.chars().collect();
+    let awkward = ("awkward", characters(|| random.pick(&list)));
+    [ascii, latin, awkward, cjk, devanagari]
+}
+
 /// Words of a text in random order, with a line end now and then.
-fn words(random: &mut Random, text: &str) -> Vec<char> {
+fn words(random: &mut Random, text: &str, line_end: &str) -> Vec<char> {
     let list: Vec<&str> = text.split_whitespace().collect();
     let mut chars = Vec::new();
     while chars.len() < CHUNK * CHUNKS {
         chars.extend(random.pick(&list).chars());
-        chars.push(if random.once_in(60) { '\n' } else { ' ' });
+        chars.extend(if random.once_in(60) { line_end } else { " " }.chars());
     }
     chars.truncate(CHUNK * CHUNKS);
     chars

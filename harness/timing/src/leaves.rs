@@ -1,7 +1,9 @@
-//! The leaves, each with its two sides.
+//! The leaves, and the scanner, each with its two sides.
 
 use crate::inputs::CHUNK;
 use crate::{ours, rust};
+use harness::text_input::scanner::Scanner;
+use std::cell::RefCell;
 use std::collections::VecDeque;
 
 /// Some characters in the forms that the leaves take.
@@ -9,14 +11,20 @@ pub struct Chunk {
     chars: Vec<char>,
     numbers: Vec<u32>,
     bytes: Vec<u8>,
+    /// The original's scanner with the text loaded, so that a round has no copy of it to make.
+    scanner: RefCell<Scanner>,
 }
 
 impl Chunk {
     pub fn new(chars: &[char]) -> Self {
+        let text: String = chars.iter().collect();
+        let mut scanner = Scanner::default();
+        scanner.load(&text);
         Self {
             chars: chars.to_vec(),
             numbers: chars.iter().map(|c| u32::from(*c)).collect(),
-            bytes: chars.iter().collect::<String>().into_bytes(),
+            bytes: text.into_bytes(),
+            scanner: RefCell::new(scanner),
         }
     }
 }
@@ -26,13 +34,20 @@ pub struct Lent {
     pub page: Vec<u32>,
     pub ours: Vec<u32>,
     pub rust: Vec<u32>,
+    scanned: Vec<u32>,
     queue: VecDeque<char>,
 }
 
 impl Lent {
     pub fn new(page: Vec<u32>) -> Self {
         let places = vec![0; 2 * CHUNK + 1];
-        Self { page, ours: places.clone(), rust: places, queue: VecDeque::with_capacity(4 * CHUNK) }
+        Self {
+            page,
+            ours: places.clone(),
+            rust: places,
+            scanned: vec![0; 3 * CHUNK + 1],
+            queue: VecDeque::with_capacity(4 * CHUNK),
+        }
     }
 }
 
@@ -78,6 +93,21 @@ pub const LEAVES: [Leaf; 6] = [
         rust: |_, chunk| rust::prefix(&chunk.bytes),
     },
 ];
+
+/// The scanner, from a record as after one character, without options.
+pub const SCAN: Leaf = Leaf {
+    name: "scan",
+    ours: |lent, chunk| ours::scan(&lent.page, &chunk.numbers, &mut lent.scanned),
+    rust: |_, chunk| chunk.scanner.borrow_mut().clean(),
+};
+
+/// Ends the program where the two sides of a scan differ.
+pub fn scans_agree(lent: &mut Lent, chunk: &Chunk) {
+    let (ours, rust) = ((SCAN.ours)(lent, chunk), (SCAN.rust)(lent, chunk));
+    assert_eq!(ours, rust, "scan of {:?}", chunk.chars);
+    let scanner = chunk.scanner.borrow();
+    assert!(scanner.tail(rust).map(u32::from).eq(lent.scanned[..ours].iter().copied()), "scan of {:?}", chunk.chars);
+}
 
 /// The leaf on the page: it takes no characters.
 pub const PAGE: Leaf = Leaf {

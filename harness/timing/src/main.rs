@@ -1,4 +1,4 @@
-//! Times each leaf of the port beside the Rust's, in one run. First both sides must agree on every character.
+//! Times each leaf and the scanner of the port beside the Rust's, in one run. First both sides must agree on every character.
 
 #![deny(unsafe_code)]
 
@@ -8,8 +8,8 @@ mod leaves;
 mod ours;
 mod rust;
 
-use inputs::{inputs, CHUNK};
-use leaves::{Chunk, Leaf, Lent, Side, LEAVES, PAGE};
+use inputs::{inputs, scan_inputs, CHUNK};
+use leaves::{scans_agree, Chunk, Leaf, Lent, Side, LEAVES, PAGE, SCAN};
 use std::hint::black_box;
 use std::time::Instant;
 
@@ -19,8 +19,7 @@ const ROUNDS: usize = 100;
 fn main() {
     // The Rust asks Debian's crate; the port asks the page that is made from it.
     harness::properties::answer_from(None);
-    let (nonstarters, assigned) = harness::page::real();
-    let mut lent = Lent::new(harness::page::numbers(nonstarters, assigned));
+    let mut lent = Lent::new(harness::page::real_numbers());
 
     println!("both sides agree on {} characters", agree(&mut lent));
     println!("{:22} {:10} {:>8} {:>8} {:>6}", "ns per character", "", "ours", "Rust", "ratio");
@@ -29,6 +28,11 @@ fn main() {
         for leaf in &LEAVES {
             row(leaf, input, least(leaf, &mut lent, &chunks, text.len()));
         }
+    }
+    for (input, text) in scan_inputs() {
+        let chunks: Vec<Chunk> = text.chunks(CHUNK).map(Chunk::new).collect();
+        chunks.iter().for_each(|chunk| scans_agree(&mut lent, chunk));
+        row(&SCAN, input, least(&SCAN, &mut lent, &chunks, text.len()));
     }
     println!("ns per number of the page");
     let numbers = lent.page.len();
@@ -44,6 +48,7 @@ fn agree(lent: &mut Lent) -> usize {
             assert_eq!((leaf.ours)(lent, &chunk), (leaf.rust)(lent, &chunk), "{} of {c:?}", leaf.name);
         }
         assert_eq!(lent.ours[..3], lent.rust[..3], "isolate of {c:?}");
+        scans_agree(lent, &chunk);
         count += 1;
     }
     count

@@ -21,6 +21,18 @@ mod linked {
             out: *mut u32,
             room: usize,
         ) -> usize;
+        /// Writes what the scanner appends for the chunk, from a record as after one character, to the places from `queue`
+        /// on, which nothing else has: how many, or 0 for a refusal.
+        pub fn bench_scan(
+            page: *const u32,
+            size: usize,
+            nel: bool,
+            lsps: bool,
+            chunk: *const u32,
+            count: usize,
+            queue: *mut u32,
+            room: usize,
+        ) -> usize;
         /// Whether the page is accepted.
         pub fn bench_page(page: *const u32, size: usize) -> bool;
         /// How many bytes the longest valid prefix has.
@@ -47,6 +59,22 @@ pub fn check(chars: &[u32]) -> u32 {
 pub fn isolate(page: &[u32], chars: &[u32], out: &mut [u32]) -> usize {
     unsafe {
         linked::bench_isolate(page.as_ptr(), page.len(), chars.as_ptr(), chars.len(), out.as_mut_ptr(), out.len())
+    }
+}
+
+/// Without options.
+pub fn scan(page: &[u32], chunk: &[u32], queue: &mut [u32]) -> usize {
+    unsafe {
+        linked::bench_scan(
+            page.as_ptr(),
+            page.len(),
+            false,
+            false,
+            chunk.as_ptr(),
+            chunk.len(),
+            queue.as_mut_ptr(),
+            queue.len(),
+        )
     }
 }
 

@@ -7,7 +7,7 @@ returns : tie.Need-returns
 returns c = simp (← c .before .before .before .meet .ensures, c .before .enum-told .given .1) (c .made .ensures)
 
 returns-2 : tie.Need-returns-2
-returns-2 c = simp (← c .before .before .before .before .meet .ensures, c .before .before .state .given .1) (c .made2 .ensures)
+returns-2 c = simp (← c .before .before .before .before .meet .ensures, c .before .before .met .given .1) (c .made2 .ensures)
 
 returns-3 : tie.Need-returns-3
 returns-3 c =

@@ -7,7 +7,7 @@ use Rattle.text_input.proofs.TextInput.step.Tie as tie
 
 returns : tie.Need-returns
 unfolding stepOf
-returns c = simp (← c .before .before .before .before .leave .ensures, c .before .before .part .given .1) (c .made .ensures)
+returns c = simp (← c .before .before .before .before .leave .ensures, c .before .before .left .given .1) (c .made .ensures)
 
 returns-2 : tie.Need-returns-2
 unfolding stepOf

@@ -1,0 +1,140 @@
+-- What a call answers and leaves, from what the numbers' call does (text_input, proofs/Calls.antt). Idea: the numbers stored in the
+-- first places of the queue are their bytes stored there. Assumes nothing.
+--     scan-refused                       a scan that is refused
+--     finish-refused, finished           a finish that is refused, and one that is not: what its two places hold, and the answer
+--     few, inside, room, scan-accepted   an accepted scan: the count stays within its limit, the chunk has what is skipped, what is
+--                                        appended has room, and the answer
+use mathlib.Core.Path.{_≡_, refl, sym, ap, _∙_}
+use mathlib.Core.Bool.{Bool, true}
+use mathlib.Core.List.{List, [], _∷_}
+use Prim.Native.Nat.{ℕ, _+_, _-_, _*_, _/_, _≤_, _<_}
+use native.Mathlib.Omega.{arith}
+use lib.ListN.{length, take, drop, length-drop}
+use lib.Seq.{sets, take-all}
+use borrow.Author.Tests.{le-ltb}
+use Rattle.unicode.specs.Chars.{areChars, filled}
+use Rattle.page.specs.Page.{accepted}
+use Rattle.isolate_unassigned.specs.declared.Answer.the-variants.{Written, Refused}
+use Rattle.text_input.specs.declared.Options.{Options}
+use Rattle.text_input.specs.declared.TextInput.{TextInput}
+use Rattle.text_input.specs.declared.Scanned.{Scanned}
+use Rattle.text_input.specs.Scan.{Outcome, outs, ends, refusalOf, scanRefusal, skipped, opened, outcome, scanOf, finishChars, finishNext, finishOf}
+use Rattle.text_input.proofs.Lists.{sets-filled}
+use Rattle.text_input.proofs.Room.{finish-room}
+use Rattle.text_input.proofs.Calls as calls
+use Rattle.basic_text.specs.Exports.{numbers, bytesOf, withNumbers}
+use Rattle.basic_text.proofs.Laws.{Bytes, length-numbers, length-bytes, with-all, with-filled}
+use Rattle.basic_text.proofs.Stores.{stored-first}
+
+-- the answer s and the queue's bytes q are those of an outcome on the queue's numbers
+abbrev pub Answers : List ℕ → Outcome → Scanned → List ℕ → Type 0
+Answers queue whole s q = (s ≡ whole .given) × (q ≡ withNumbers (whole .places) queue)
+
+-- an outcome that leaves the numbers leaves the bytes
+left-as-it-was : (queue : List ℕ) (s : Scanned) (whole : Outcome) → Bytes queue → outcome s (numbers queue) ≡ whole →
+    Answers queue whole s queue
+left-as-it-was queue s whole k w =
+    (ap (λ (x : Outcome). x .given) w, sym (with-all queue k) ∙ ap (λ (x : Outcome). withNumbers (x .places) queue) w)
+
+-- an outcome that stores numbers in the first places stores their bytes there
+first-filled : (queue out q : List ℕ) (s : Scanned) (whole : Outcome) → Bytes queue → 4 * length out ≤ length queue →
+    q ≡ filled (bytesOf out) queue → outcome s (filled out (numbers queue)) ≡ whole → Answers queue whole s q
+first-filled queue out q s whole k room e w = (
+  ap (λ (x : Outcome). x .given) w,
+  e ∙ sym (with-filled out queue k (omega (arith, length-numbers queue))) ∙ ap (λ (x : Outcome). withNumbers (x .places) queue) w,
+)
+
+-- ---- a scan
+rest : (l : List ℕ) (s : ℕ) → take (length l - s) (drop s l) ≡ drop s l
+rest l s = take-all (length l - s) (drop s l) (omega (arith, length-drop s l))
+
+-- the refusal's number n, 0 where there is none
+module _ (r : TextInput) (p : List ℕ) (o : Options) (chunk queue : List ℕ) (n : ℕ)
+    (e : n ≡ refusalOf (r .count) (accepted p) (areChars (numbers chunk)) (length chunk / 4) (length queue / 4)) where
+  abbrev whole : Outcome
+  whole = scanOf r p o (numbers chunk) (numbers queue)
+
+  asked : n ≡ scanRefusal r p (numbers chunk) (length (numbers queue))
+  asked = rw (length-numbers chunk, length-numbers queue) e
+
+  pub scan-refused : Bytes queue → (n ≡ 0 → ⊥) → Answers queue whole (record { answer = Refused n; next = r }) queue
+  scan-refused k h = left-as-it-was queue _ whole k (calls.refused-is r p o (numbers chunk) (numbers queue) n asked h)
+
+  module _ (z : n ≡ 0) where
+    pub right-page : accepted p ≡ true
+    right-page = calls.right-page r p o (numbers chunk) (numbers queue) n asked z
+
+    pub few : r .count + length chunk / 4 ≤ 4294967295
+    few = rw length-numbers at (calls.counts r p o (numbers chunk) (numbers queue) n asked z)
+
+    module _ (from : ℕ) (f : from ≡ skipped r (numbers chunk)) where
+      pub inside : from ≤ length (numbers chunk)
+      inside = calls.from-le r p o (numbers chunk) (numbers queue) n asked z from f
+
+      module _ (first : TextInput) (g : first ≡ opened r (length chunk / 4)) where
+        same : first ≡ opened r (length (numbers chunk))
+        same = rw length-numbers g
+
+        pub room : 4 * length (outs p o first (drop from (numbers chunk))) ≤ length queue
+        room =
+            let w = calls.enough r p o (numbers chunk) (numbers queue) n asked z from f first same in
+            omega (arith, rw rest at w, length-numbers queue)
+
+        pub scan-accepted : Bytes queue → (k : ℕ) (next : TextInput) (q : List ℕ) →
+            (k ≡ length (outs p o first (drop from (numbers chunk))))
+            × ((next ≡ ends p o first (drop from (numbers chunk)))
+            × (q ≡ filled (bytesOf (outs p o first (drop from (numbers chunk)))) queue))
+            → Answers queue whole (record { answer = Written k; next = next }) q
+        scan-accepted b k next q h =
+            let out = outs p o first (drop from (numbers chunk)) in
+            let w =
+            calls.accepted-is r p o (numbers chunk) (numbers queue) n asked z from f first same k next (filled out (numbers queue))
+            (rw rest (h .0, (h .1 .0, refl))) in
+            first-filled queue out q _ whole b room (h .1 .1) w
+
+-- ---- a finish
+module _ (r : TextInput) (eof : Bool) (queue : List ℕ) where
+  pub finish-refused : Bytes queue → length queue / 4 < 2 →
+      Answers queue (finishOf r eof (numbers queue)) (record { answer = Refused 8; next = r }) queue
+  finish-refused k h =
+      left-as-it-was queue _ _ k (calls.finish-refused r eof (numbers queue) (omega (arith, length-numbers queue)))
+
+  -- a finish on two places answered s and left them so
+  module _ (s : Scanned) (two : List ℕ) (e : outcome s two ≡ finishOf r eof (0 ∷ 0 ∷ [])) where
+    given : s ≡ record { answer = Written (length (finishChars r eof)); next = finishNext r eof }
+    unfolding finishOf
+    given = ap (λ (x : Outcome). x .given) e
+
+    places : two ≡ filled (finishChars r eof) (0 ∷ 0 ∷ [])
+    unfolding finishOf
+    places = ap (λ (x : Outcome). x .places) e
+
+    pub never-refused : (k : ℕ) → s .answer ≡ Refused k → ⊥
+    never-refused k h = let z : _≡_ {A = ℕ} 0 1 = cc (ap (λ (x : Scanned). x .answer) given) in omega arith
+
+    module _ (n : ℕ) (h : s .answer ≡ Written n) where
+      count : n ≡ length (finishChars r eof)
+      count = cc (ap (λ (x : Scanned). x .answer) given)
+
+      pub held : (n ≤ length two) × (take n two ≡ finishChars r eof)
+      held = stored-first (finishChars r eof) (0 ∷ 0 ∷ []) two n count places
+
+      module _ (room : 2 ≤ length queue / 4) where
+        pub fits : 4 * (0 + n) ≤ length queue
+        fits = omega (arith, count, finish-room r eof)
+
+        whole-finish : outcome s (filled (finishChars r eof) (numbers queue)) ≡ finishOf r eof (numbers queue)
+        unfolding finishOf
+        whole-finish =
+            let two-places : 2 ≤ length (numbers queue) = omega (arith, length-numbers queue) in
+            rw (le-ltb (length (numbers queue)) 2 two-places, given)
+
+        pub finished : Bytes queue → (q : List ℕ) → q ≡ sets queue (4 * 0) (bytesOf (take n two)) →
+            Answers queue (finishOf r eof (numbers queue)) s q
+        finished k q f =
+            let out = finishChars r eof in
+            let enough : 4 * length out ≤ length queue = omega (arith, fits, count) in
+            first-filled queue out q s (finishOf r eof (numbers queue)) k enough
+            (f ∙ ap (λ (l : List ℕ). sets queue 0 (bytesOf l)) (held .1)
+            ∙ sets-filled (bytesOf out) queue (omega (arith, length-bytes out)))
+            whole-finish

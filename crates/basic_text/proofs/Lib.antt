@@ -1,0 +1,6 @@
+-- Laws that the proofs share.
+pub mod Laws
+pub mod Stores
+pub mod Pages
+pub mod Loop
+pub mod Calls

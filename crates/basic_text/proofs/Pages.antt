@@ -1,0 +1,66 @@
+-- A page's length. Idea: an accepted page has at most `longest` numbers, so that one with more may be taken for the empty one.
+-- Assumes nothing.
+--     right-page, long-page, odd-page    what `fitting` makes of the pages that `read_page` tells apart
+--     scan-read                          a scan by the page that was read, among other places, is the scan by the page
+use Prim.Native.Nat.{ℕ, _-_, _/_, _%_, _≤_, _<_}
+use mathlib.Core.Path.{_≡_, refl}
+use mathlib.Core.Bool.{false}
+use mathlib.Core.List.{List, []}
+use native.Mathlib.Nat.{sub-zero}
+use native.Mathlib.Omega.{arith}
+use lib.Dec.{leb}
+use lib.ListN.{length, take, drop}
+use borrow.Author.Tests.{eq-eqb, ne-eqb, le-leb, lt-leb, leb-false}
+use Rattle.unicode.proofs.Kit.{by}
+use Rattle.page.specs.Page.{accepted, sized}
+use Rattle.page.proofs.PageLaws.{facts-of-accepted}
+use Rattle.text_input.specs.declared.Options.{Options}
+use Rattle.text_input.specs.declared.TextInput.{TextInput}
+use Rattle.text_input.specs.Scan.{refusalOf, scanOf}
+use Rattle.basic_text.specs.Exports.{numbers, pageOf}
+use Rattle.basic_text.specs.Inner.{longest, fitting}
+use Rattle.basic_text.proofs.Laws.{length-numbers}
+
+module _ (bytes : List ℕ) where
+  pub right-page : length bytes % 4 ≡ 0 → length bytes / 4 ≤ longest → fitting (pageOf bytes) ≡ numbers bytes
+  unfolding fitting
+  right-page h k =
+      let e : length (numbers bytes) ≤ longest = omega (arith, length-numbers bytes) in rw (eq-eqb _ _ h, le-leb _ _ e)
+
+  pub long-page : length bytes % 4 ≡ 0 → longest < length bytes / 4 → fitting (pageOf bytes) ≡ []
+  unfolding fitting
+  long-page h k =
+      let e : longest < length (numbers bytes) = omega (arith, length-numbers bytes) in rw (eq-eqb _ _ h, lt-leb _ _ e)
+
+  pub odd-page : (length bytes % 4 ≡ 0 → ⊥) → fitting (pageOf bytes) ≡ []
+  unfolding fitting
+  odd-page h = rw (ne-eqb _ _ h)
+
+-- the empty page is not accepted
+empty-wrong : accepted [] ≡ false
+unfolding accepted sized
+empty-wrong = refl
+
+too-long : (p : List ℕ) → longest < length p → accepted p ≡ false
+too-long p h =
+    by (accepted p)
+    (λ e. let s = facts-of-accepted p e .sizes in absurd (omega (arith, s .long, s .nonstarters, s .assigneds)))
+    (λ e. e)
+
+-- by two pages that are not accepted a scan is refused alike
+both-wrong : (p q : List ℕ) → accepted p ≡ false → accepted q ≡ false → (r : TextInput) (o : Options) (chunk queue : List ℕ) →
+    scanOf r p o chunk queue ≡ scanOf r q o chunk queue
+unfolding scanOf refusalOf
+both-wrong p q e f r o chunk queue = simp (e, f)
+
+-- a scan by what `fitting` makes of a page is the scan by the page
+scan-fitting : (p : List ℕ) (r : TextInput) (o : Options) (chunk queue : List ℕ) →
+    scanOf r (fitting p) o chunk queue ≡ scanOf r p o chunk queue
+unfolding fitting
+scan-fitting p r o chunk queue =
+    by (leb (length p) longest) (λ e. rw e)
+    (λ e. rw e (both-wrong [] p empty-wrong (too-long p (leb-false _ _ e)) r o chunk queue))
+
+pub scan-read : (r s : TextInput) (o u : Options) (p all : List ℕ) (n : ℕ) (chunk queue : List ℕ) → s ≡ r → u ≡ o →
+    take n all ≡ fitting p → scanOf s (take (n - 0) (drop 0 all)) u chunk queue ≡ scanOf r p o chunk queue
+scan-read r s o u p all n chunk queue e f g = rw (sub-zero, e, f, g) (scan-fitting p r o chunk queue)

@@ -1,0 +1,31 @@
+-- `basic_text::basic_text_finish` meets its contract: the finish of the record that was read, answered in numbers.
+use mathlib.Core.Path.{_≡_, ap, _∙_}
+use borrow.Author.Needs.{needs}
+use Rattle.text_input.specs.Scan.{Outcome, finishOf}
+use Rattle.basic_text.specs.Exports.{numbers, withNumbers, flag, recordOf, replyOf}
+use Rattle.basic_text.proofs.basic_text_finish.Statement.{statement}
+use Rattle.basic_text.proofs.basic_text_finish.Tie as tie
+
+returns : tie.Need-returns
+returns c =
+    let f = c .before .before .before in
+    let e = f .before .before in
+    let r = e .before in
+    let a = r .before .before .args in
+    let w : finishOf (r .record-of .result) (e .flag-of .result) (numbers (a .queue .now))
+    ≡ finishOf (recordOf (a .«record»)) (flag (a .eof)) (numbers (a .queue .now)) =
+    rw (r .record-of .ensures, e .flag-of .ensures) in (
+      c .reply-of .ensures ∙ ap replyOf (f .finish .ensures .0 ∙ ap (λ (x : Outcome). x .given) w),
+      f .finish .ensures .1 ∙ ap (λ (x : Outcome). withNumbers (x .places) (a .queue .now)) w,
+    )
+
+pub basic-text-finish-spec : {M : Type 1} → statement M
+basic-text-finish-spec =
+    tie.close
+    (tie.spec
+    (λ c κs. search needs)
+    (λ c κs. search needs)
+    (λ c κs. search needs)
+    (λ c κs. search needs)
+    (λ c. search needs)
+    returns)

@@ -1,0 +1,110 @@
+-- What the exported calls read and write: bytes as 32-bit numbers, and a record, options and an answer as plain numbers. The calls
+-- themselves are those of `text_input`, specs/Scan.antt. Assumes nothing.
+use Prim.Native.Nat.{ℕ, _+_, _*_, _/_, _%_}
+use mathlib.Core.Bool.{Bool, true, false, cond, not}
+use mathlib.Core.List.{List, [], _∷_, _++_}
+use lib.Dec.{eqb}
+use lib.ListN.{length, drop}
+use Rattle.isolate_unassigned.specs.declared.Answer.{Answer}
+use Rattle.isolate_unassigned.specs.declared.Answer.the-variants.{Written, Refused}
+use Rattle.text_input.specs.declared.State.{State}
+use Rattle.text_input.specs.declared.State.the-variants.{Ground, Cr, Ff, Esc, CsiStart, Csi, Osc, Linux}
+use Rattle.text_input.specs.declared.Options.{Options}
+use Rattle.text_input.specs.declared.TextInput.{TextInput}
+use Rattle.text_input.specs.declared.Scanned.{Scanned}
+use Rattle.basic_text.specs.declared.Record.{Record}
+use Rattle.basic_text.specs.declared.Reply.{Reply}
+
+-- ---- bytes as numbers
+-- four bytes as one number, the low byte first
+abbrev pub number : ℕ → ℕ → ℕ → ℕ → ℕ
+number a b c d = a + 256 * b + 65536 * c + 16777216 * d
+
+-- the numbers of a slice of bytes; those past its last whole four are not read
+abbrev pub numbers : List ℕ → List ℕ
+numbers [] = []
+numbers (a ∷ []) = []
+numbers (a ∷ b ∷ []) = []
+numbers (a ∷ b ∷ c ∷ []) = []
+numbers (a ∷ b ∷ c ∷ d ∷ rest) = number a b c d ∷ numbers rest
+
+-- the four bytes of each number, the low byte first
+abbrev pub bytesOf : List ℕ → List ℕ
+bytesOf [] = []
+bytesOf (n ∷ ns) = n % 256 ∷ n / 256 % 256 ∷ n / 65536 % 256 ∷ n / 16777216 % 256 ∷ bytesOf ns
+
+-- a page's numbers; one whose length is no multiple of four is a wrong page, as the empty one is
+abbrev pub pageOf : List ℕ → List ℕ
+pageOf bytes = cond (eqb (length bytes % 4) 0) (numbers bytes) []
+
+-- the queue's bytes as a call leaves them: the places' numbers, and behind them what was there
+abbrev pub withNumbers : List ℕ → List ℕ → List ℕ
+withNumbers places queue = bytesOf places ++ drop (4 * length places) queue
+
+-- ---- a call's arguments
+-- 0 is false, and any other number true
+abbrev pub flag : ℕ → Bool
+flag n = not (eqb n 0)
+
+-- the states by number; a number past the last is read as 0
+abbrev pub stateOf : ℕ → State
+stateOf n =
+    cond (eqb n 1) (Ground true)
+    (cond (eqb n 2) Cr
+    (cond (eqb n 3) Ff
+    (cond (eqb n 4) Esc
+    (cond (eqb n 5) CsiStart
+    (cond (eqb n 6) Csi
+    (cond (eqb n 7) Osc
+    (cond (eqb n 8) Linux (Ground false))))))))
+
+abbrev pub recordOf : Record → TextInput
+recordOf r =
+    record {
+      state = stateOf (r .state);
+      «expect_starter» = flag (r .«expect_starter»);
+      «at_start» = flag (r .«at_start»);
+      last = r .last;
+      count = r .count;
+    }
+
+-- bit 0: 85 ends a line; bit 1: 2028 and 2029 do; the other bits have no meaning
+abbrev pub optionsOf : ℕ → Options
+optionsOf n = record { «nel_compatibility» = eqb (n % 2) 1; «lsps_compatibility» = eqb (n / 2 % 2) 1 }
+
+-- ---- a call's answer
+abbrev pub flagNumber : Bool → ℕ
+flagNumber b = cond b 1 0
+
+abbrev pub stateNumber : State → ℕ
+stateNumber (Ground line) = flagNumber line
+stateNumber Cr = 2
+stateNumber Ff = 3
+stateNumber Esc = 4
+stateNumber CsiStart = 5
+stateNumber Csi = 6
+stateNumber Osc = 7
+stateNumber Linux = 8
+
+abbrev pub recordNumbers : TextInput → Record
+recordNumbers r =
+    record {
+      state = stateNumber (r .state);
+      «expect_starter» = flagNumber (r .«expect_starter»);
+      «at_start» = flagNumber (r .«at_start»);
+      last = r .last;
+      count = r .count;
+    }
+
+-- the number of a refusal, and 0 where the call was accepted
+abbrev pub refusedBy : Answer → ℕ
+refusedBy (Written n) = 0
+refusedBy (Refused k) = k
+
+-- how many numbers were written, and 0 where the call was refused
+abbrev pub writtenBy : Answer → ℕ
+writtenBy (Written n) = n
+writtenBy (Refused k) = 0
+
+abbrev pub replyOf : Scanned → Reply
+replyOf s = record { refused = refusedBy (s .answer); written = writtenBy (s .answer); «record» = recordNumbers (s .next) }

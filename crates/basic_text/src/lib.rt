@@ -1,0 +1,167 @@
+// The library that Rust links: the scanner's calls, on lent bytes. Bytes are read as 32-bit numbers, a record goes in and comes back
+// as plain numbers, and nothing is allocated or kept between calls.
+//     numbers.rt    bytes as numbers
+//     plain.rt      a record, options and an answer as numbers
+//     run.rt        a run of characters
+mod numbers;
+mod plain;
+mod run;
+
+use isolate_unassigned::Answer;
+use numbers::hold_chars;
+use numbers::read_numbers;
+use numbers::write_numbers;
+use page::is_accepted;
+use plain::flag_of;
+use plain::options_of;
+use plain::record_of;
+use plain::reply_of;
+use run::run;
+use run::skips;
+use text_input::Options;
+use text_input::Scanned;
+use text_input::TextInput;
+use text_input::refusal;
+ghost use mathlib.Core.Path.{_≡_};
+ghost use Prim.Native.Nat.{_≤_};
+ghost use lib.ListN.{length, take};
+ghost use Rattle.text_input.specs.Scan.{scanOf, finishOf};
+ghost use Rattle.basic_text.specs.Exports.{numbers, pageOf, withNumbers, flag, recordOf, optionsOf, replyOf};
+ghost use Rattle.basic_text.specs.Inner.{longest, fitting};
+
+// The scanner's record. A state's number past the last is read as 0, and a flag is false at 0 alone.
+#[repr(C)]
+pub struct Record {
+    pub state: u32,
+    pub expect_starter: u32,
+    pub at_start: u32,
+    pub last: u32,
+    pub count: u32,
+}
+
+// The number of a refusal, or 0; how many numbers were written; the record after the call.
+#[repr(C)]
+pub struct Reply {
+    pub refused: u32,
+    pub written: usize,
+    pub record: Record,
+}
+
+// The numbers of the longest page that is accepted: 2 + 2 × (2,048 + 2,048).
+const LONGEST: usize = 8194;
+
+// Reads a page into the first places of all, and answers how many numbers it has: none for one that is wrong by its length.
+// Inner: asks for room for the longest page.
+fn read_page(page: &[u8], all: &mut [u32]) -> usize
+    requires { ⌜ longest ≤ length (now all) ⌝ }
+    ensures { λ r. ⌜ r ≤ longest ⌝ }
+    ensures { λ r. ⌜ take r (now (all .exit)) ≡ fitting (pageOf (now (page .entry))) ⌝ }
+{
+    let n = page.len() / 4;
+    if page.len() % 4 == 0 {
+        if n <= LONGEST {
+            read_numbers(page, all);
+            return n;
+        }
+        return 0;
+    }
+    0
+}
+
+// The scan by a page of numbers. Total.
+fn scan(r: TextInput, page: &[u32], options: Options, chunk: &[u8], queue: &mut [u8]) -> Scanned
+    ensures { λ s. ⌜ s ≡ scanOf r (now (page .entry)) options (numbers (now (chunk .entry))) (numbers (now (queue .entry))) .given ⌝ }
+    ensures { λ s. ⌜
+        now (queue .exit)
+        ≡ withNumbers (scanOf r (now (page .entry)) options (numbers (now (chunk .entry))) (numbers (now (queue .entry))) .places) (now (queue .entry))
+        ⌝ }
+{
+    let n = chunk.len() / 4;
+    let no = refusal(
+        r.count,
+        is_accepted(page),
+        hold_chars(chunk),
+        n,
+        queue.len() / 4,
+    );
+    if no == 0 {
+        let from = skips(r, chunk);
+        let opened = r.open(n as u32);
+        let ran = run(opened, page, options, chunk, from, queue);
+        let next = ran.next;
+        Scanned {
+            answer: Answer::Written(ran.written),
+            next,
+        }
+    } else {
+        Scanned {
+            answer: Answer::Refused(no),
+            next: r,
+        }
+    }
+}
+
+// A chunk comes in. Page, chunk and queue are lent as bytes; the cleaned characters go to the queue's first places.
+#[no_mangle]
+pub extern "C" fn basic_text_scan(
+    record: Record,
+    page: &[u8],
+    options: u32,
+    chunk: &[u8],
+    queue: &mut [u8],
+) -> Reply
+    ensures reply { λ r. ⌜
+        r
+        ≡ replyOf (scanOf (recordOf «record») (pageOf (now (page .entry))) (optionsOf options) (numbers (now (chunk .entry))) (numbers (now (queue .entry))) .given)
+        ⌝ }
+    ensures places { λ r. ⌜
+        now (queue .exit)
+        ≡ withNumbers
+        (scanOf (recordOf «record») (pageOf (now (page .entry))) (optionsOf options) (numbers (now (chunk .entry))) (numbers (now (queue .entry))) .places)
+        (now (queue .entry))
+        ⌝ }
+{
+    let mut all = [0u32; LONGEST];
+    let n = read_page(page, &mut all);
+    let r = record_of(record);
+    let o = options_of(options);
+    let scanned = scan(r, &all[0..n], o, chunk, queue);
+    reply_of(scanned)
+}
+
+// The finish. Total: what it appends is stored as numbers first, since that is at most two.
+fn finish(r: TextInput, eof: bool, queue: &mut [u8]) -> Scanned
+    ensures { λ s. ⌜ s ≡ finishOf r eof (numbers (now (queue .entry))) .given ⌝ }
+    ensures { λ s. ⌜ now (queue .exit) ≡ withNumbers (finishOf r eof (numbers (now (queue .entry))) .places) (now (queue .entry)) ⌝ }
+{
+    if queue.len() / 4 < 2 {
+        return Scanned {
+            answer: Answer::Refused(8),
+            next: r,
+        };
+    }
+    let mut two = [0u32; 2];
+    let finished = r.finish(eof, &mut two);
+    let answer = finished.answer;
+    match answer {
+        Answer::Written(n) => {
+            write_numbers(queue, 0, &two, n);
+            finished
+        }
+        Answer::Refused(_) => finished,
+    }
+}
+
+// The stream is pushed, or it ends. The queue is lent as bytes; what is pending goes to its first places, with what ends a text.
+#[no_mangle]
+pub extern "C" fn basic_text_finish(record: Record, eof: u32, queue: &mut [u8]) -> Reply
+    ensures reply { λ r. ⌜ r ≡ replyOf (finishOf (recordOf «record») (flag eof) (numbers (now (queue .entry))) .given) ⌝ }
+    ensures places { λ r. ⌜
+        now (queue .exit) ≡ withNumbers (finishOf (recordOf «record») (flag eof) (numbers (now (queue .entry))) .places) (now (queue .entry))
+        ⌝ }
+{
+    let r = record_of(record);
+    let end = flag_of(eof);
+    let finished = finish(r, end, queue);
+    reply_of(finished)
+}
