@@ -1,7 +1,8 @@
 -- `leave` meets its contract: in each state its tests are those of `leaveOf`, in the same order.
 use borrow.Author.Needs.{needs}
 use Rattle.unicode.proofs.Kit.{tests}
-use Rattle.text_input.proofs.Kit.{states}
+use Rattle.text_input.specs.Step.{leaveOf}
+use Rattle.text_input.proofs.Kit.{at-state}
 use Rattle.text_input.proofs.step.leave.Statement.{statement}
 use Rattle.text_input.proofs.step.leave.Tie as tie
 
@@ -23,18 +24,18 @@ leave-spec =
     (λ c κs. search needs)
     (λ c. search needs)
     (λ c κs. search needs)
-    (λ c. search (states, tests) depth 9)
-    (λ c. search (states, tests) depth 9)
-    (λ c. search (states, tests) depth 9)
-    (λ c. search (states, tests) depth 9)
-    (λ c. search (states, tests) depth 9)
-    (λ c. search (states, tests) depth 9)
-    (λ c. search (states, tests) depth 9)
-    (λ c. search (states, tests) depth 9)
-    (λ c. search (states, tests) depth 9)
-    (λ c. search (states, tests) depth 9)
-    (λ c. search (states, tests) depth 9)
-    (λ c. search (states, tests) depth 9)
-    (λ c. search (states, tests) depth 9)
-    (λ c. search (states, tests) depth 9)
-    (λ c. search (states, tests) depth 9))
+    (λ c. unfold leaveOf in search (at-state, tests) depth 9)
+    (λ c. unfold leaveOf in search (at-state, tests) depth 9)
+    (λ c. unfold leaveOf in search (at-state, tests) depth 9)
+    (λ c. unfold leaveOf in search (at-state, tests) depth 9)
+    (λ c. unfold leaveOf in search (at-state, tests) depth 9)
+    (λ c. unfold leaveOf in search (at-state, tests) depth 9)
+    (λ c. unfold leaveOf in search (at-state, tests) depth 9)
+    (λ c. unfold leaveOf in search (at-state, tests) depth 9)
+    (λ c. unfold leaveOf in search (at-state, tests) depth 9)
+    (λ c. unfold leaveOf in search (at-state, tests) depth 9)
+    (λ c. unfold leaveOf in search (at-state, tests) depth 9)
+    (λ c. unfold leaveOf in search (at-state, tests) depth 9)
+    (λ c. unfold leaveOf in search (at-state, tests) depth 9)
+    (λ c. unfold leaveOf in search (at-state, tests) depth 9)
+    (λ c. unfold leaveOf in search (at-state, tests) depth 9))
