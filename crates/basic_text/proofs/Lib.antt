@@ -1,5 +1,6 @@
 -- Laws that the proofs share.
 pub mod Laws
+pub mod Crossing
 pub mod Stores
 pub mod Pages
 pub mod Loop

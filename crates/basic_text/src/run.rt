@@ -17,7 +17,7 @@ ghost use Rattle.text_input.specs.Step.{stepOf, outChars};
 ghost use Rattle.text_input.specs.Scan.{outs, ends, skipped};
 ghost use Rattle.basic_text.specs.Exports.{numbers, bytesOf};
 
-// How many characters of the chunk are dropped: a leading FEFF, where no call was accepted before. Total.
+// How many characters of the chunk are dropped: a leading FEFF, where no scan was accepted before. Total.
 pub fn skips(r: TextInput, chunk: &[u8]) -> usize
     ensures { λ n. ⌜ n ≡ skipped r (numbers (now (chunk .entry))) ⌝ }
 {
@@ -35,9 +35,9 @@ pub fn skips(r: TextInput, chunk: &[u8]) -> usize
 fn turn(r: TextInput, page: &[u32], options: Options, c: u32, queue: &mut [u8], k: usize) -> Ran
     requires { ⌜ accepted (now page) ≡ true ⌝ }
     requires { ⌜ 4 * (k + length (outChars (stepOf (now page) options r c))) ≤ length (now queue) ⌝ }
-    ensures { λ ran. ⌜ ran .written ≡ k + length (outChars (stepOf (now (page .entry)) options r c)) ⌝ }
-    ensures { λ ran. ⌜ ran .next ≡ stepOf (now (page .entry)) options r c .next ⌝ }
-    ensures { λ ran. ⌜ now (queue .exit) ≡ sets (now (queue .entry)) (4 * k) (bytesOf (outChars (stepOf (now (page .entry)) options r c))) ⌝ }
+    ensures written { λ ran. ⌜ ran .written ≡ k + length (outChars (stepOf (now (page .entry)) options r c)) ⌝ }
+    ensures next { λ ran. ⌜ ran .next ≡ stepOf (now (page .entry)) options r c .next ⌝ }
+    ensures places { λ ran. ⌜ now (queue .exit) ≡ sets (now (queue .entry)) (4 * k) (bytesOf (outChars (stepOf (now (page .entry)) options r c))) ⌝ }
 {
     let mut four = [0u32; 4];
     let ran = r.turn(page, options, c, &mut four, 0);
@@ -63,9 +63,9 @@ pub fn run(
     requires { ⌜ accepted (now page) ≡ true ⌝ }
     requires { ⌜ from ≤ length (numbers (now chunk)) ⌝ }
     requires { ⌜ 4 * length (outs (now page) options first (drop from (numbers (now chunk)))) ≤ length (now queue) ⌝ }
-    ensures { λ ran. ⌜ ran .written ≡ length (outs (now (page .entry)) options first (drop from (numbers (now (chunk .entry))))) ⌝ }
-    ensures { λ ran. ⌜ ran .next ≡ ends (now (page .entry)) options first (drop from (numbers (now (chunk .entry)))) ⌝ }
-    ensures { λ ran. ⌜ now (queue .exit) ≡ filled (bytesOf (outs (now (page .entry)) options first (drop from (numbers (now (chunk .entry)))))) (now (queue .entry)) ⌝ }
+    ensures written { λ ran. ⌜ ran .written ≡ length (outs (now (page .entry)) options first (drop from (numbers (now (chunk .entry))))) ⌝ }
+    ensures next { λ ran. ⌜ ran .next ≡ ends (now (page .entry)) options first (drop from (numbers (now (chunk .entry)))) ⌝ }
+    ensures places { λ ran. ⌜ now (queue .exit) ≡ filled (bytesOf (outs (now (page .entry)) options first (drop from (numbers (now (chunk .entry)))))) (now (queue .entry)) ⌝ }
 {
     let mut r = first;
     let mut k = 0;

@@ -3,7 +3,7 @@
 -- from the one before it. Assumes nothing.
 --     outs-append, ends-append             a run over joined texts
 --     marked, outs-marked, ends-marked     a run does not see `at_start` and the count
---     chunks-spent, chunks-spent-next      chunks on a record that has had a call
+--     chunks-spent, chunks-spent-next      chunks on a record that has had a scan
 --     chunks-first, chunks-first-next      chunks on one that has not: the first of them loses its U+FEFF
 --     spent-outs, spent-ends, first-ends   the same by runs
 --     count-of                             all characters are counted
@@ -136,7 +136,7 @@ module _ (p : List ℕ) (o : Options) where
       rw (length-append c (flatten cs))
       (then-ends r c c (spent r h c) cs (spent-ends (scanNext p o r c) (spent-again r c) cs))
 
-  -- chunks on a record that has had a call
+  -- chunks on a record that has had a scan
   pub chunks-spent : (r : TextInput) → r .«at_start» ≡ false → (cs : List (List ℕ)) →
       scansChars p o r cs ≡ scanChars p o r (flatten cs)
   chunks-spent r h cs = spent-outs r h cs ∙ sym (scan-outs r (flatten cs) (flatten cs) (spent r h (flatten cs)))

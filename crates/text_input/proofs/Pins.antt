@@ -22,13 +22,13 @@ pub record Row : Type 0 where
 abbrev pub table : List Row
 table =
     -- "20..3F"
-    record { set = parameter; inside = 0x20 ∷ 0x3F ∷ []; outside = 0x1F ∷ 0x40 ∷ [] }
+    record { set = parameter; inside = 0x20 ∷ 0x30 ∷ 0x3F ∷ []; outside = 0x1F ∷ 0x40 ∷ [] }
     -- "one of 40..7E or 18"
-    ∷ record { set = final; inside = 0x18 ∷ 0x40 ∷ 0x7E ∷ []; outside = 0x17 ∷ 0x19 ∷ 0x3F ∷ 0x7F ∷ [] }
+    ∷ record { set = final; inside = 0x18 ∷ 0x40 ∷ 0x5B ∷ 0x5D ∷ 0x6D ∷ 0x7E ∷ []; outside = 0x17 ∷ 0x19 ∷ 0x3F ∷ 0x7F ∷ [] }
     -- "07 or 18"; neither 0A nor 1B
     ∷ record { set = stringEnd; inside = 0x07 ∷ 0x18 ∷ []; outside = 0x06 ∷ 0x08 ∷ 0x0A ∷ 0x17 ∷ 0x19 ∷ 0x1B ∷ [] }
     -- "up to 7F"
-    ∷ record { set = upTo7F; inside = 0x00 ∷ 0x7F ∷ []; outside = 0x80 ∷ [] }
+    ∷ record { set = upTo7F; inside = 0x00 ∷ 0x0A ∷ 0x1B ∷ 0x7F ∷ []; outside = 0x80 ∷ [] }
     -- "0D or 0A"
     ∷ record { set = newlineChar; inside = 0x0A ∷ 0x0D ∷ []; outside = 0x09 ∷ 0x0B ∷ 0x0C ∷ 0x0E ∷ [] }
     -- "with its option 85, or 2028 and 2029"

@@ -3,15 +3,16 @@
 -- the joined chunks (proofs/Chunks.antt), whose meaning is known (proofs/Meaning.antt), and the finish leaves a ground state again.
 -- Assumes nothing.
 --     whole                       a whole text, in any chunks, finished once as end of file
---     whole-none, whole-any       the same with no chunk; with or without
 --     stream                      a stream from a fresh record
---     stream-from, stream-start   a stream from a record that a finish left, after a call and before the first
+--     stream-count                the count after a stream
+--     stream-from, stream-start   a stream from a record that a finish left, after a scan and before the first
 --     ready                       such a record
 use Prim.Native.Nat.{ℕ, _+_}
 use mathlib.Core.Bool.{Bool, true, false, cond, not, _&&_, _||_}
 use mathlib.Core.List.{List, [], _∷_, _++_, append-assoc, flatten}
 use mathlib.Core.Path.{_≡_, refl, ap, ap₂, sym, _∙_}
-use lib.ListN.{length}
+use native.Mathlib.Omega.{arith}
+use lib.ListN.{length, length-append}
 use Rattle.page.specs.Page.{accepted}
 use Rattle.text_utils.proofs.Classes.{end-newline}
 use Rattle.text_input.specs.declared.State.the-variants.{Ground}
@@ -20,10 +21,10 @@ use Rattle.text_input.specs.declared.TextInput.{TextInput}
 use Rattle.text_input.specs.Step.{lastOf}
 use Rattle.text_input.specs.Scan.{fresh, outs, ends, finishChars, finishNext}
 use Rattle.text_input.specs.Pieces.{Piece, Reading, isLine, image, endMark, lastNewline, cleaned}
-use Rattle.text_input.specs.Streams.{Section, scansChars, scansNext, streamChars, unmarked, unmarkedFirst, unmarkedStream}
+use Rattle.text_input.specs.Streams.{Section, scansChars, scansNext, streamChars, streamNext, streamText, unmarked, unmarkedFirst, unmarkedStream}
 use Rattle.text_input.specs.Streams.{Readings, owedAfter, endMarkAfter, sectionOf, streamOf}
 use Rattle.text_input.proofs.Meaning.{sectionAfter, section-chars, section-next}
-use Rattle.text_input.proofs.Chunks.{marked, spent-outs, spent-ends, chunks-first, first-ends}
+use Rattle.text_input.proofs.Chunks.{marked, spent-outs, spent-ends, chunks-first, first-ends, count-of}
 
 -- the record that a finish leaves, and a fresh one: a start is expected, and nothing is pending
 abbrev pub ready : Bool → Bool → ℕ → ℕ → TextInput
@@ -95,24 +96,14 @@ module _ (p : List ℕ) (good : accepted p ≡ true) (o : Options) where
         ∙ ap (λ w. ready (eof || not (owedAfter (not b) xs)) start (lastOf n w) count) (section-is p n (not b) xs eof)
 
   -- ---- A WHOLE TEXT, in any chunks, finished once as end of file
-  pub whole : (c : List ℕ) (cs : List (List ℕ)) (xs : List Piece) → Reading o (unmarked c ++ flatten cs) xs →
-      scansChars p o fresh (c ∷ cs) ++ finishChars (scansNext p o fresh (c ∷ cs)) true ≡ cleaned p xs
-  whole c cs xs read =
+  pub whole : (cs : List (List ℕ)) (xs : List Piece) → Reading o (flatten (unmarkedFirst cs)) xs →
+      scansChars p o fresh cs ++ finishChars (scansNext p o fresh cs) true ≡ cleaned p xs
+  unfolding flatten
+  whole [] xs read = section-step true true 0x0A 0 [] [] true 0 (comes-none fresh) xs read true ∙ whole-is p xs
+  whole (c ∷ cs) xs read =
       section-step true true 0x0A 0 (c ∷ cs) (unmarked c ++ flatten cs) false (0 + (length c + length (flatten cs)))
       (comes-first fresh refl c cs) xs read true
       ∙ whole-is p xs
-
-  -- with no chunk
-  pub whole-none : scansChars p o fresh [] ++ finishChars (scansNext p o fresh []) true ≡ []
-  unfolding scansChars scansNext
-  whole-none = rw end-newline
-
-  -- both
-  pub whole-any : (cs : List (List ℕ)) (xs : List Piece) → Reading o (flatten (unmarkedFirst cs)) xs →
-      scansChars p o fresh cs ++ finishChars (scansNext p o fresh cs) true ≡ cleaned p xs
-  unfolding flatten
-  whole-any [] xs read = section-step true true 0x0A 0 [] [] true 0 (comes-none fresh) xs read true ∙ whole-is p xs
-  whole-any (c ∷ cs) xs read = whole c cs xs read
 
   -- ---- A STREAM
   owed-on : (eof owed : Bool) → not (eof || not owed) ≡ not eof && owed
@@ -142,7 +133,7 @@ module _ (p : List ℕ) (good : accepted p ≡ true) (o : Options) where
       rest (eof || not owed) last ∙ ap (λ x. streamOf p last x us xss) (owed-on eof owed)
       )
 
-  -- from a record that has had a call
+  -- from a record that has had a scan
   pub stream-from : (ss : List Section) (xss : List (List Piece)) → Readings o ss xss → (line : Bool) (last count : ℕ) →
       streamChars p o (ready line false last count) ss ≡ streamOf p last (not line) ss xss
   stream-from [] xss read line last count = unfold streamChars streamOf in refl
@@ -182,3 +173,12 @@ module _ (p : List ℕ) (good : accepted p ≡ true) (o : Options) where
   pub stream : (ss : List Section) (xss : List (List Piece)) → Readings o (unmarkedStream ss) xss →
       streamChars p o fresh ss ≡ streamOf p 0x0A false (unmarkedStream ss) xss
   stream ss xss read = stream-start ss xss read true 0x0A 0
+
+-- ---- THE COUNT: the characters of all chunks, on every page and record
+pub stream-count : (p : List ℕ) (o : Options) (r : TextInput) (ss : List Section) →
+    streamNext p o r ss .count ≡ r .count + length (streamText ss)
+unfolding streamNext streamText
+stream-count p o r [] = omega arith
+stream-count p o r (s ∷ ss) =
+    let n = stream-count p o (finishNext (scansNext p o r (s .chunks)) (s .eof)) ss in
+    omega (arith, n, count-of p o r (s .chunks), length-append (flatten (s .chunks)) (streamText ss))

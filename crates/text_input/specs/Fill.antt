@@ -19,6 +19,7 @@ taken free (c ∷ cs) = cond (ltb free 4) [] (c ∷ taken (free - length (encode
 unfoldable pub continuation : ℕ → Bool
 continuation b = leb 0x80 b && leb b 0xBF
 
+-- "continuation bytes .. are zeroed up to the first other byte"
 abbrev pub zeroed : List ℕ → List ℕ
 zeroed [] = []
 zeroed (b ∷ bs) = cond (continuation b) (0 ∷ zeroed bs) (b ∷ bs)
@@ -31,10 +32,11 @@ pub record FillOutcome : Type 0 where
 abbrev pub fillOutcome : Filled → List ℕ → FillOutcome
 fillOutcome given bytes = record { given = given; bytes = bytes }
 
--- the queue qs into the buffer buf: "7 a byte buffer under 136", then 1
+-- the bytes filled
 abbrev pub filledBytes : List ℕ → List ℕ → List ℕ
 filledBytes qs buf = encodes (taken (length buf) qs)
 
+-- the queue qs into the buffer buf: "7 a byte buffer under 136", then 1
 unfoldable pub fillOf : List ℕ → List ℕ → FillOutcome
 fillOf qs buf =
     cond (ltb (length buf) 136) (fillOutcome (Refused 7) buf)

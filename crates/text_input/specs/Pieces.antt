@@ -46,11 +46,13 @@ noBracket (c ∷ q) = not (eqb c 0x5B)
 -- "Escape: 1B, then one of:
 --     `[` `[` and at most one character up to 7F;                                                      linux, linuxChar
 --     or `[` not followed by `[`, any number of 20..3F, then one of 40..7E or 18 if it stands there;   control
---     or `]` and all up to the first of 07, 18 and 1B, with it if it is 07 or 18, ..;                  string
+--     or `]` and all up to the first of 07, 18 and 1B, with it if it is 07 or 18,                      string
+--     without it if it is 1B, or to the end if none of the three comes;
 --     or one of 40..7E other than `[` and `]`, or 18;                                                  two
 --     or, none of these fitting, nothing."                                                             alone
 -- "if it stands there", "all up to the first", "to the end if none of the three comes" and "none of these fitting" say that the
--- longest is taken; `Longest` says it for every piece, so these are the lengths among which it chooses.
+-- longest is taken; `Longest` says it for every piece, so these are the lengths among which it chooses. A string's characters leave
+-- out 1B, so that it ends before one.
 pub data Escape : List ℕ → Type 0 where
   linux : Escape (0x1B ∷ 0x5B ∷ 0x5B ∷ [])
   linuxChar : {c : ℕ} → upTo7F c ≡ true → Escape (0x1B ∷ 0x5B ∷ 0x5B ∷ c ∷ [])

@@ -1,7 +1,7 @@
 -- Streams of accepted calls: chunks and finishes, and what they come to in terms of the pieces. Document 01, "A stream finishes".
 -- Assumes nothing.
 use Prim.Native.Nat.{ℕ}
-use mathlib.Core.Bool.{Bool, true, false, cond, not, _&&_}
+use mathlib.Core.Bool.{Bool, cond, not, _&&_}
 use mathlib.Core.List.{List, [], _∷_, _++_, flatten}
 use lib.ListN.{drop}
 use Rattle.text_utils.specs.Classes.{basicTextEnd}
@@ -39,6 +39,11 @@ streamNext p o r [] = r
 streamNext p o r (s ∷ ss) = streamNext p o (finishNext (scansNext p o r (s .chunks)) (s .eof)) ss
 
 -- ---- the text
+-- the characters of all chunks
+unfoldable pub streamText : List Section → List ℕ
+streamText [] = []
+streamText (s ∷ ss) = flatten (s .chunks) ++ streamText ss
+
 -- the chunk without a U+FEFF that begins it
 abbrev pub unmarked : List ℕ → List ℕ
 unmarked chunk = drop (mark chunk) chunk
@@ -48,7 +53,8 @@ abbrev pub unmarkedFirst : List (List ℕ) → List (List ℕ)
 unmarkedFirst [] = []
 unmarkedFirst (c ∷ cs) = unmarked c ∷ cs
 
--- the same in a stream, whose first chunk may come after a finish: "A finish spends no chance to drop U+FEFF"
+-- the same in a stream, whose first chunk may come after a finish: "A finish spends no chance to drop U+FEFF". By the chunks of the
+-- first section, what follows it, and what follows it where the chance is still there.
 abbrev pub unmarkedBy : List (List ℕ) → Bool → List Section → List Section → List Section
 unmarkedBy [] eof ss rest = record { chunks = []; eof = eof } ∷ rest
 unmarkedBy (c ∷ cs) eof ss rest = record { chunks = unmarked c ∷ cs; eof = eof } ∷ ss

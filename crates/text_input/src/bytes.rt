@@ -27,6 +27,7 @@ fn is_continuation(b: u8) -> bool
 }
 
 // `clear_to_char_boundary`: zeroes continuation bytes from a place on, up to the first other byte.
+// Inner: asks for a place inside.
 fn clear_to_char_boundary(buf: &mut [u8], at: usize)
     requires { ⌜ at ≤ length (now buf) ⌝ }
     ensures { λ r. ⌜ now (buf .exit) ≡ take at (now (buf .entry)) ++ zeroed (drop at (now (buf .entry))) ⌝ }
@@ -47,7 +48,7 @@ struct Encoded {
     bytes: usize,
 }
 
-// Encodes characters of the queue while at least four bytes are free.
+// Encodes characters of the queue while at least four bytes are free. Inner: asks for characters.
 fn encode_queue(queue: &[u32], buf: &mut [u8]) -> Encoded
     requires { ⌜ areChars (now queue) ≡ true ⌝ }
     ensures taken { λ r. ⌜ r .taken ≡ length (taken (length (now (buf .entry))) (now (queue .entry))) ⌝ }

@@ -61,7 +61,7 @@ pub struct TextInput {
     pub state: State,
     // A start is expected: in a fresh record, and after a finish.
     pub expect_starter: bool,
-    // No call has been accepted, so that a leading FEFF is dropped.
+    // No scan has been accepted, so that a leading FEFF is dropped.
     pub at_start: bool,
     // The last character ever appended. Before the first it is 0A, which is an end.
     pub last: u32,
@@ -83,7 +83,7 @@ pub struct Ran {
 
 impl TextInput {
     // The least size of a byte buffer to fill: 136.
-    pub const NORMALIZATION_BUFFER_SIZE: usize = 136;
+    pub const NORMALIZATION_BUFFER_SIZE: usize = unicode::NORMALIZATION_BUFFER_SIZE;
 
     // A record as first made.
     pub fn new() -> Self
@@ -136,8 +136,8 @@ impl TextInput {
         }
     }
 
-    // How many characters of the chunk are dropped: a leading FEFF, where no call was accepted before.
-    pub fn skips(self, chunk: &[u32]) -> usize
+    // How many characters of the chunk are dropped: a leading FEFF, where no scan was accepted before.
+    fn skips(self, chunk: &[u32]) -> usize
         ensures { λ r. ⌜ r ≡ skipped self (now (chunk .entry)) ⌝ }
     {
         if !self.at_start {
@@ -151,7 +151,7 @@ impl TextInput {
         0
     }
 
-    // The record of an accepted call on n characters, before the first of them.
+    // The record of an accepted scan of n characters, before the first of them. Inner: asks that the count stays within its limit.
     pub fn open(self, n: u32) -> Self
         requires { ⌜ self .count + n < 4294967296 ⌝ }
         ensures { λ r. ⌜ r ≡ opened self n ⌝ }

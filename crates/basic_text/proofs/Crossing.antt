@@ -1,0 +1,59 @@
+-- What goes over to the caller comes back as it was: the two tables for states and flags agree, and so do reading and writing
+-- numbers. So a stream's records are handed on from call to call unchanged. Assumes nothing.
+--     record-back     a record as numbers, read again
+--     numbers-back    numbers as bytes, read again
+use Prim.Native.Nat.{ℕ, _+_, _*_, _<_, _/_, _%_}
+use mathlib.Core.Path.{_≡_, refl}
+use mathlib.Core.Bool.{Bool, true, false}
+use mathlib.Core.List.{List, [], _∷_}
+use native.Mathlib.Omega.{arith}
+use Rattle.text_input.specs.declared.State.{State}
+use Rattle.text_input.specs.declared.State.the-variants.{Ground, Cr, Ff, Esc, CsiStart, Csi, Osc, Linux}
+use Rattle.text_input.specs.declared.TextInput.{TextInput}
+use Rattle.basic_text.specs.Exports.{number, numbers, bytesOf, flag, flagNumber, stateOf, stateNumber, recordOf, recordNumbers}
+
+flag-back : (b : Bool) → flag (flagNumber b) ≡ b
+flag-back true = refl
+flag-back false = refl
+
+state-back : (s : State) → stateOf (stateNumber s) ≡ s
+state-back (Ground true) = refl
+state-back (Ground false) = refl
+state-back Cr = refl
+state-back Ff = refl
+state-back Esc = refl
+state-back CsiStart = refl
+state-back Csi = refl
+state-back Osc = refl
+state-back Linux = refl
+
+pub record-back : (r : TextInput) → recordOf (recordNumbers r) ≡ r
+record-back r =
+    λ i. record {
+      state = state-back (r .state) i;
+      «expect_starter» = flag-back (r .«expect_starter») i;
+      «at_start» = flag-back (r .«at_start») i;
+      last = r .last;
+      count = r .count;
+    }
+
+-- every number has 32 bits
+abbrev pub Wide : List ℕ → Type 0
+Wide [] = Unit {0}
+Wide (n ∷ ns) = (n < 4294967296) × Wide ns
+
+-- n = n % 256 + 256 × x, x = x % 256 + 256 × y and y = y % 256 + 256 × z
+digits : (n x y z : ℕ) → x ≡ n / 256 → y ≡ x / 256 → z ≡ y / 256 → z < 256 → number (n % 256) (x % 256) (y % 256) (z % 256) ≡ n
+digits n x y z hx hy hz h =
+    let a : n ≡ n % 256 + 256 * x = omega arith in
+    let b : x ≡ x % 256 + 256 * y = omega arith in
+    let c : y ≡ y % 256 + 256 * z = omega arith in
+    let d : z % 256 ≡ z = omega arith in
+    omega (arith, a, b, c, d)
+
+number-back : (n : ℕ) → n < 4294967296 → number (n % 256) (n / 256 % 256) (n / 65536 % 256) (n / 16777216 % 256) ≡ n
+number-back n h = digits n (n / 256) (n / 65536) (n / 16777216) refl (omega arith) (omega arith) (omega arith)
+
+pub numbers-back : (ns : List ℕ) → Wide ns → numbers (bytesOf ns) ≡ ns
+numbers-back [] h = refl
+numbers-back (n ∷ ns) h = rw (number-back n (h .0), numbers-back ns (h .1))
