@@ -25,7 +25,7 @@ pub fn read_number(bytes: &[u8], i: usize) -> u32
 }
 
 // Stores a number at place i. Inner: asks for room.
-pub fn write_number(bytes: &mut [u8], i: usize, n: u32)
+fn write_number(bytes: &mut [u8], i: usize, n: u32)
     requires { ⌜ 4 * (i + 1) ≤ length (now bytes) ⌝ }
     ensures { λ r. ⌜ now (bytes .exit) ≡ sets (now (bytes .entry)) (4 * i) (bytesOf (n ∷ [])) ⌝ }
 {

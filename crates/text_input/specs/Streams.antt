@@ -59,6 +59,7 @@ abbrev pub unmarkedBy : List (List ℕ) → Bool → List Section → List Secti
 unmarkedBy [] eof ss rest = record { chunks = []; eof = eof } ∷ rest
 unmarkedBy (c ∷ cs) eof ss rest = record { chunks = unmarked c ∷ cs; eof = eof } ∷ ss
 
+-- the stream's first chunk loses its mark, and no other
 abbrev pub unmarkedStream : List Section → List Section
 unmarkedStream [] = []
 unmarkedStream (s ∷ ss) = unmarkedBy (s .chunks) (s .eof) ss (unmarkedStream ss)
@@ -85,6 +86,7 @@ unfoldable pub sectionOf : List ℕ → ℕ → Bool → List Piece → Bool →
 sectionOf p last owed xs eof =
     startMark p (image xs) ++ (image xs ++ (endMarkAfter last (image xs) ++ cond (eof && owedAfter owed xs) (0x0A ∷ []) []))
 
+-- the queue, section by section: the last character and an owed 0A go over a push, and an end of file leaves none owed
 unfoldable pub streamOf : List ℕ → ℕ → Bool → List Section → List (List Piece) → List ℕ
 streamOf p last owed [] xss = []
 streamOf p last owed (s ∷ ss) [] = []
