@@ -5,3 +5,6 @@ pub mod Stores
 pub mod Pages
 pub mod Loop
 pub mod Calls
+pub mod Holds
+pub mod Listed
+pub mod Demand

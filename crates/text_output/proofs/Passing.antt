@@ -1,0 +1,142 @@
+-- A queue of writable characters that begins with a start and ends with 0A passes a fresh plain writer in one write, and the writer
+-- then closes. Idea: isolation puts in 34F alone, which is writable and a start, and none behind a last 0A, which is assigned.
+-- Assumes nothing.
+--     startsWell           the first character is a start, if there is one
+--     endsWell             the last character is 0A; b where there is none
+--     starts-isolated      a run that starts well starts well isolated
+--     ends-isolated        a run that ends well ends well isolated
+--     ends-on-newline      after characters that end well a writer is after a newline
+--     lines-go             from after a newline, the steps of a write of writable characters that end well lead there again
+--     write-runs           a write that 9, 2, 1 and 8 let through is its steps, finished
+--     Handed, hands-out    what stands in the first places is handed out if it starts well
+--     closes-on-newline    after a newline a close succeeds
+--     passes-plain         such a queue passes
+use Prim.Native.Nat.{ℕ, _*_, _≤_}
+use mathlib.Core.Path.{_≡_, refl}
+use mathlib.Core.Bool.{Bool, true, false, and-false}
+use mathlib.Core.List.{List, [], _∷_, _++_}
+use native.Mathlib.Nat.{zero-add}
+use native.Mathlib.Omega.{arith}
+use lib.Dec.{eqb}
+use lib.ListN.{length, drop}
+use lib.Seq.{sets, sets-eq, take-append-seam}
+use borrow.Author.Tests.{eqb-true, le-ltb}
+use Rattle.unicode.specs.Chars.{areChars}
+use Rattle.unicode.proofs.Kit.{split}
+use Rattle.page.specs.Page.{accepted}
+use Rattle.page.proofs.PageLaws.{facts-of-accepted}
+use Rattle.text_utils.specs.Classes.{basicTextStart}
+use Rattle.text_utils.proofs.Classes.{start-joiner}
+use Rattle.check_char.specs.Check.{all}
+use Rattle.isolate_unassigned.specs.declared.IsolateUnassigned.{IsolateUnassigned}
+use Rattle.isolate_unassigned.specs.declared.Isolated.{Isolated}
+use Rattle.isolate_unassigned.specs.Isolate.{unassigned, recordOf, fresh as unmarked, puts, stepOf, given, after, outs, isolateOf}
+use Rattle.isolate_unassigned.specs.Meaning.{PutIn, none, kept, put}
+use Rattle.isolate_unassigned.proofs.Laws.{length-isolate, isolate-puts-in}
+use Rattle.text_output.specs.declared.Ground.{Ground}
+use Rattle.text_output.specs.declared.Ground.the-variants.{Newline}
+use Rattle.text_output.specs.declared.State.the-variants.{Ground as Grounded}
+use Rattle.text_output.specs.declared.Mode.the-variants.{Plain}
+use Rattle.text_output.specs.declared.TextOutput.{TextOutput}
+use Rattle.text_output.specs.Writer.{Given, fresh, sound}
+use Rattle.text_output.specs.Step.{goes, onGround}
+use Rattle.text_output.specs.Write.{runOf, runIn, handOut, finished, placesFor, writeRefusal, writeOf}
+use Rattle.text_output.specs.Close.{closeOf}
+use Rattle.text_output.specs.Passing.{Passes}
+use Rattle.text_output.proofs.Writable.{writable, groundOf, groundAfter, isolated-goes}
+
+-- ---- how a run starts and ends
+-- the first is a start, if there is one
+abbrev pub startsWell : List ℕ → List ℕ → Bool
+startsWell p [] = true
+startsWell p (x ∷ w) = basicTextStart p x
+
+-- the last is 0A; b where there is none
+abbrev pub endsWell : Bool → List ℕ → Bool
+endsWell b [] = b
+endsWell b (x ∷ w) = endsWell (eqb x 0x0A) w
+
+module _ (p : List ℕ) (a : accepted p ≡ true) where
+  starts-put-in : {cs ds : List ℕ} → PutIn cs ds → startsWell p cs ≡ true → startsWell p ds ≡ true
+  starts-put-in none h = refl
+  starts-put-in (kept r) h = h
+  starts-put-in (put r) h = start-joiner p a
+
+  pub starts-isolated : (cs : List ℕ) → startsWell p cs ≡ true → startsWell p (isolateOf p cs) ≡ true
+  starts-isolated cs = starts-put-in (isolate-puts-in p cs)
+
+  newline-assigned : (c : ℕ) → eqb c 0x0A ≡ true → unassigned p c ≡ false
+  unfolding unassigned
+  newline-assigned c e = rw (eqb-true c 0x0A e, facts-of-accepted p a .assigned-0a)
+
+  -- from a record that owes no 34F if it is after 0A
+  outs-end : (cs : List ℕ) (r : IsolateUnassigned) (b : Bool) → (b ≡ true → r .«need_cgj» ≡ false) → endsWell b cs ≡ true →
+      endsWell b (outs p r cs) ≡ true
+  unfolding stepOf
+  outs-end [] r b f h = rw (f h) h
+  outs-end (c ∷ cs) r b f h =
+      split (λ (s : Isolated). endsWell b (given s ++ outs p (after s) cs) ≡ true) (puts p r c)
+      (λ e. outs-end cs (recordOf (unassigned p c) false) (eqb c 0x0A) (newline-assigned c) h)
+      (λ e. outs-end cs (recordOf false (eqb c 0x34F)) (eqb c 0x0A) (λ n. refl) h)
+
+  pub ends-isolated : (cs : List ℕ) → endsWell true cs ≡ true → endsWell true (isolateOf p cs) ≡ true
+  unfolding isolateOf
+  ends-isolated cs = outs-end cs unmarked true (λ e. refl)
+
+pub ends-on-newline : (cs : List ℕ) (g : Ground) (b : Bool) → (b ≡ true → g ≡ Newline) → endsWell b cs ≡ true →
+    groundAfter g cs ≡ Newline
+unfolding groundOf
+ends-on-newline [] g b f h = f h
+ends-on-newline (c ∷ cs) g b f h = ends-on-newline cs (groundOf c) (eqb c 0x0A) (λ e. rw e) h
+
+-- ---- the write
+pub lines-go : (p : List ℕ) → accepted p ≡ true → (cs : List ℕ) (w : TextOutput) → w .state ≡ Grounded Newline → w .held ≡ 0 →
+    all writable cs ≡ true → endsWell true cs ≡ true → runOf p w cs ≡ goes (isolateOf p cs) (onGround w (Grounded Newline))
+lines-go p a cs w s n f l =
+    rw (ends-on-newline (isolateOf p cs) Newline true (λ t. refl) (ends-isolated p a cs l)) at (isolated-goes p cs w Newline s n f)
+
+pub write-runs : (w : TextOutput) (p cs places : List ℕ) → sound w ≡ true → accepted p ≡ true → areChars cs ≡ true →
+    placesFor w (length cs) ≤ length places → writeOf w p cs places ≡ finished p (runIn (w .mode) p w cs) places
+unfolding writeOf writeRefusal
+write-runs w p cs places s a c room = rw (s, a, c, le-ltb (length places) (placesFor w (length cs)) room)
+
+-- an answer that hands out k characters from a writer
+pub record Handed (w : TextOutput) (k : ℕ) (answer : Given) : Type 0 where
+  pub number : answer .numbers ≡ 0 ∷ k ∷ []
+  pub state : answer .next .state ≡ w .state
+  pub held : answer .next .held ≡ w .held
+
+pub hands-out : (p : List ℕ) (w : TextOutput) (xs rest : List ℕ) → startsWell p xs ≡ true →
+    Handed w (length xs) (handOut p w (length xs) (xs ++ rest))
+hands-out p w [] rest h = simp and-false (record { number = refl; state = refl; held = refl })
+hands-out p w (x ∷ xs) rest h = simp (h, and-false) (record { number = refl; state = refl; held = refl })
+
+-- ---- the close
+pub closes-on-newline : (w : TextOutput) → w .state ≡ Grounded Newline → w .held ≡ 0 → closeOf w .numbers ≡ 0 ∷ []
+unfolding closeOf
+closes-on-newline w s n = rw (s, n) refl
+
+-- ---- both
+isolated-fits : (p cs : List ℕ) → length (isolateOf p cs) ≤ 3 * length cs
+isolated-fits p [] = omega (arith, length-isolate p [])
+isolated-fits p (c ∷ cs) = omega (arith, length-isolate p (c ∷ cs))
+
+stored-first : (xs places : List ℕ) → length xs ≤ length places → sets places 0 xs ≡ xs ++ drop (length xs) places
+stored-first xs places h = rw zero-add at (sets-eq xs places 0 (omega arith))
+
+pub passes-plain : (p : List ℕ) → accepted p ≡ true → (q places : List ℕ) →
+    areChars q ≡ true → all writable q ≡ true → startsWell p q ≡ true → endsWell true q ≡ true →
+    placesFor (fresh Plain) (length q) ≤ length places →
+    Passes p q (writeOf (fresh Plain) p q places) (closeOf (writeOf (fresh Plain) p q places .given .next))
+passes-plain p a q places c f s l room =
+    let xs = isolateOf p q in
+    let rest = drop (length xs) places in
+    let runs = write-runs (fresh Plain) p q places refl a c room in
+    let go = lines-go p a q (fresh Plain) refl refl f l in
+    let stored = stored-first xs places (omega (arith, isolated-fits p q)) in
+    let handed = hands-out p (fresh Plain) xs rest (starts-isolated p a q s) in
+    record {
+      number = rw (runs, go, zero-add, stored) (handed .number);
+      characters = rw (runs, go, stored) (take-append-seam xs rest);
+      closes = rw (runs, go, zero-add, stored) (closes-on-newline _ (handed .state) (handed .held));
+    }

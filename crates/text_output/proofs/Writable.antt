@@ -1,0 +1,108 @@
+-- A run of characters that the check accepts, without ESC, goes through a writer outside an escape, in any mode. Idea: a step looks
+-- at the mode at ESC alone and refuses 1A, which the check refuses too; 34F, which isolation puts in, is accepted. Assumes nothing.
+--     writable               accepted by the check, and no ESC
+--     writable-of            a clean list with none of the kept ones is writable
+--     groundOf, groundAfter  what stands last after a character, after some characters
+--     run-goes               steps over writable characters hand out exactly these and lead to the ground after them
+--     all-isolated           what holds of 34F and of each character of a run holds of each of the run isolated
+--     isolated-goes          the steps of a write of writable characters hand out exactly the run isolated
+use Prim.Native.Nat.{ℕ}
+use mathlib.Core.Path.{_≡_, refl}
+use mathlib.Core.Bool.{Bool, true, false, cond, not, _&&_, _||_}
+use mathlib.Core.List.{List, [], _∷_, map}
+use native.Mathlib.Omega.{arith}
+use lib.Dec.{eqb}
+use borrow.Author.Tests.{eqb-true, not-true, ne-eqb}
+use Rattle.unicode.proofs.Kit.{never, by, both-true, both}
+use Rattle.text_utils.specs.Classes.{basicTextEnd}
+use Rattle.replace.specs.Table.{any}
+use Rattle.check_char.specs.Check.{kept, reasonOf, clean, all}
+use Rattle.check_char.proofs.Clean.{accepted-joiner, refused-substitute}
+use Rattle.isolate_unassigned.specs.Isolate.{isolateOf}
+use Rattle.isolate_unassigned.specs.Meaning.{PutIn, none, kept as same, put}
+use Rattle.isolate_unassigned.proofs.Laws.{isolate-puts-in}
+use Rattle.text_output.specs.declared.Ground.{Ground}
+use Rattle.text_output.specs.declared.Ground.the-variants.{Newline, ZwjOrPrepend, Other}
+use Rattle.text_output.specs.declared.State.the-variants.{Ground as Grounded}
+use Rattle.text_output.specs.declared.TextOutput.{TextOutput}
+use Rattle.text_output.specs.Step.{goes, onGround, groundStep, stepOf, stepsOf}
+use Rattle.text_output.specs.Write.{checked, firstError, runOf}
+
+-- ---- writable characters
+-- accepted by the check, and no ESC
+abbrev pub writable : ℕ → Bool
+writable c = eqb (reasonOf c) 0 && not (eqb c 0x1B)
+
+-- r: accepted; k: one of the kept ones; e: no ESC
+accepted-of : (r k e : Bool) → (r || k) && e ≡ true → not k ≡ true → r && e ≡ true
+accepted-of true k e h g = h
+accepted-of false true e h g = never g
+accepted-of false false e h g = h
+
+pub writable-of : (w : List ℕ) → all clean w ≡ true → all (λ x. not (any kept x)) w ≡ true → all writable w ≡ true
+writable-of [] h g = refl
+writable-of (x ∷ w) h g =
+    let a = both-true (clean x) (all clean w) h in
+    let b = both-true (not (any kept x)) (all (λ y. not (any kept y)) w) g in
+    both (accepted-of (eqb (reasonOf x) 0) (any kept x) (not (eqb x 0x1B)) (a .0) (b .0)) (writable-of w (a .1) (b .1))
+
+writable-joiner : writable 0x34F ≡ true
+writable-joiner = rw accepted-joiner
+
+-- ---- the steps
+-- what stands last after a character
+unfoldable pub groundOf : ℕ → Ground
+groundOf c = cond (eqb c 0x0A) Newline (cond (basicTextEnd c) Other ZwjOrPrepend)
+
+-- what stands last after some characters; g where there is none
+abbrev pub groundAfter : Ground → List ℕ → Ground
+groundAfter g [] = g
+groundAfter g (c ∷ cs) = groundAfter (groundOf c) cs
+
+module _ (c : ℕ) (h : writable c ≡ true) where
+  no-escape : eqb c 0x1B ≡ false
+  no-escape = not-true (eqb c 0x1B) (both-true (eqb (reasonOf c) 0) (not (eqb c 0x1B)) h .1)
+
+  no-substitute : eqb c 0x1A ≡ false
+  no-substitute =
+      let a : reasonOf c ≡ 0 = eqb-true (reasonOf c) 0 (both-true (eqb (reasonOf c) 0) (not (eqb c 0x1B)) h .0) in
+      ne-eqb c 0x1A (λ e. omega (arith, refused-substitute, rw e at a))
+
+  step-goes : (w : TextOutput) (g : Ground) (error : List ℕ) → w .state ≡ Grounded g →
+      stepOf w error c ≡ goes (c ∷ []) (onGround w (Grounded (groundOf c)))
+  unfolding groundStep groundOf
+  step-goes w g error s = by (eqb c 0x0A) (λ n. rw (s, no-escape, n)) (λ n. rw (s, no-escape, n, no-substitute))
+
+pub run-goes : (cs : List ℕ) (w : TextOutput) (g : Ground) (error : List ℕ) → w .state ≡ Grounded g → w .held ≡ 0 →
+    all writable cs ≡ true → stepsOf w error cs ≡ goes cs (onGround w (Grounded (groundAfter g cs)))
+unfolding stepsOf
+run-goes [] w g error s n h = rw (← s, ← n)
+run-goes (c ∷ cs) w g error s n h =
+    let q = both-true (writable c) (all writable cs) h in
+    rw (
+      step-goes c (q .0) w g error s,
+      run-goes cs (onGround w (Grounded (groundOf c))) (groundOf c) error refl refl (q .1),
+    )
+
+-- ---- a write
+all-put-in : (f : ℕ → Bool) → f 0x34F ≡ true → {cs ds : List ℕ} → PutIn cs ds → all f cs ≡ true → all f ds ≡ true
+all-put-in f j none h = refl
+all-put-in f j (same {c} {cs} r) h = let q = both-true (f c) (all f cs) h in both (q .0) (all-put-in f j r (q .1))
+all-put-in f j (put r) h = both j (all-put-in f j r h)
+
+pub all-isolated : (f : ℕ → Bool) → f 0x34F ≡ true → (p cs : List ℕ) → all f cs ≡ true → all f (isolateOf p cs) ≡ true
+all-isolated f j p cs = all-put-in f j (isolate-puts-in p cs)
+
+-- no 1A takes the place of a character
+checked-same : (cs : List ℕ) → all writable cs ≡ true → map checked cs ≡ cs
+checked-same [] h = refl
+checked-same (c ∷ cs) h =
+    let q = both-true (writable c) (all writable cs) h in
+    rw (both-true (eqb (reasonOf c) 0) (not (eqb c 0x1B)) (q .0) .0, checked-same cs (q .1))
+
+pub isolated-goes : (p cs : List ℕ) (w : TextOutput) (g : Ground) → w .state ≡ Grounded g → w .held ≡ 0 → all writable cs ≡ true →
+    runOf p w cs ≡ goes (isolateOf p cs) (onGround w (Grounded (groundAfter g (isolateOf p cs))))
+unfolding runOf
+isolated-goes p cs w g s n h =
+    rw (checked-same cs h)
+    (run-goes (isolateOf p cs) w g (firstError cs) s n (all-isolated writable writable-joiner p cs h))

@@ -1,0 +1,7 @@
+-- What a reader must believe of this crate: the record and what its calls answer; one character in one state; the two writes; flush,
+-- close and abandon.
+pub mod Writer
+pub mod Step
+pub mod Write
+pub mod Close
+pub mod Passing

@@ -1,0 +1,116 @@
+-- The writer's record, what its calls answer, and the after-newline state. Document 01, "Characters go out" and "Refused ..". Assumes
+-- nothing.
+use Prim.Native.Nat.{ℕ, _+_, _*_}
+use mathlib.Core.Bool.{Bool, true, false, _&&_}
+use mathlib.Core.List.{List, [], _∷_}
+use lib.Dec.{eqb, leb}
+use lib.ListN.{replicate}
+use Rattle.check_char.specs.Check.{errorNumbers}
+use Rattle.text_output.specs.declared.Ground.the-variants.{Newline, ZwjOrPrepend, Other}
+use Rattle.text_output.specs.declared.State.{State}
+use Rattle.text_output.specs.declared.State.the-variants.{Ground, Esc, Csi}
+use Rattle.text_output.specs.declared.Mode.{Mode}
+use Rattle.text_output.specs.declared.TextOutput.{TextOutput}
+use Rattle.text_output.specs.declared.Wrote.{Wrote}
+use Rattle.text_output.specs.declared.Wrote.the-variants.{HandedOut, Refused, Abandon, Unwritable}
+use Rattle.text_output.specs.declared.Written.{Written}
+use Rattle.text_output.specs.declared.WrittenBytes.{WrittenBytes}
+use Rattle.text_output.specs.declared.Ended.{Ended}
+use Rattle.text_output.specs.declared.Ended.the-variants.{Done, Refused as Denied, Abandon as Abandoned}
+use Rattle.text_output.specs.declared.Closed.{Closed}
+
+-- ---- the record
+-- as first made, in a mode
+abbrev pub fresh : Mode → TextOutput
+fresh mode =
+    record { mode = mode; «expect_starter» = true; state = Ground Newline; kept = 0; held = 0; «escape_sequence» = replicate 64 0 }
+
+-- "1 after ESC, 2 or more after ESC `[`, else 0": the held counts that a state can have
+abbrev pub heldIn : State → ℕ → Bool
+heldIn (Ground g) n = eqb n 0
+heldIn Esc n = eqb n 1
+heldIn Csi n = leb 2 n
+
+-- what 9 does not refuse: "a writer record claiming over 64 held, or a held count that its state can't have"
+abbrev pub sound : TextOutput → Bool
+sound w = leb (w .held) 64 && heldIn (w .state) (w .held)
+
+-- outside an escape, where nothing is held: with the expectation, the state and the kept count given
+abbrev pub grounded : TextOutput → Bool → State → ℕ → TextOutput
+grounded w expect state kept =
+    record {
+      mode = w .mode;
+      «expect_starter» = expect;
+      state = state;
+      kept = kept;
+      held = 0;
+      «escape_sequence» = w .«escape_sequence»;
+    }
+
+-- "the writer's after-newline state", with the expectation given: `reset_state`; the kept characters stay
+abbrev pub afterNewline : TextOutput → Bool → TextOutput
+afterNewline w expect = grounded w expect (Ground Newline) (w .kept)
+
+-- ---- what a call answers, by this paper's numbers
+-- 0 and how many characters are handed out; or the refusal's number, for 4 the reason's number and its values too
+abbrev pub wroteNumbers : Wrote → List ℕ
+wroteNumbers (HandedOut k) = 0 ∷ k ∷ []
+wroteNumbers (Refused n) = n ∷ []
+wroteNumbers (Abandon n) = n ∷ []
+wroteNumbers (Unwritable e) = 4 ∷ errorNumbers e
+
+-- whether the caller is told to abandon
+abbrev pub wroteTells : Wrote → Bool
+wroteTells (HandedOut k) = false
+wroteTells (Refused n) = false
+wroteTells (Abandon n) = true
+wroteTells (Unwritable e) = true
+
+-- 0, or the refusal's number
+abbrev pub endedNumbers : Ended → List ℕ
+endedNumbers Done = 0 ∷ []
+endedNumbers (Denied n) = n ∷ []
+endedNumbers (Abandoned n) = n ∷ []
+
+abbrev pub endedTells : Ended → Bool
+endedTells Done = false
+endedTells (Denied n) = false
+endedTells (Abandoned n) = true
+
+-- an answer's numbers, whether it tells the caller to abandon, and the record after the call
+pub record Given : Type 0 where
+  pub numbers : List ℕ
+  pub abandon : Bool
+  pub next : TextOutput
+
+-- the same with the lent places as the call returns
+pub record Outcome : Type 0 where
+  pub given : Given
+  pub places : List ℕ
+
+-- the same of a write of bytes, with how many of them were taken
+pub record BytesOutcome : Type 0 where
+  pub used : ℕ
+  pub outcome : Outcome
+
+-- what a call returned and left
+abbrev pub writtenOutcome : Written → List ℕ → Outcome
+writtenOutcome r places =
+    record { given = record { numbers = wroteNumbers (r .answer); abandon = wroteTells (r .answer); next = r .next }; places = places }
+
+abbrev pub bytesOutcome : WrittenBytes → List ℕ → BytesOutcome
+bytesOutcome r places =
+    record { used = r .used; outcome = writtenOutcome (record { answer = r .answer; next = r .next }) places }
+
+abbrev pub closedGiven : Closed → Given
+closedGiven r = record { numbers = endedNumbers (r .answer); abandon = endedTells (r .answer); next = r .next }
+
+-- ---- refusals
+-- "1, 2, 7, 8, 9, 10 and a flush refused by 13 change nothing."
+abbrev pub refusedBy : ℕ → TextOutput → Given
+refusedBy n w = record { numbers = n ∷ []; abandon = false; next = w }
+
+-- "The others return the writer to its after-newline state and tell the caller to abandon.": the number with its values, and the
+-- expectation after it
+abbrev pub abandonedBy : List ℕ → TextOutput → Bool → Given
+abandonedBy numbers w expect = record { numbers = numbers; abandon = true; next = afterNewline w expect }

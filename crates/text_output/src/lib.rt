@@ -1,0 +1,150 @@
+// The writer: ports text_output.rs. Its record is a value, and the characters that it hands out stand in a lent slice: those kept
+// since the last success in the first places, and behind them those of the write.
+// The stream that the Rust writer holds is the caller's: a success says how many characters are handed out, and a refusal whether
+// the caller is to abandon the stream.
+use check_char::BasicTextError;
+use unicode::BOM;
+ghost use mathlib.Core.Path.{_≡_};
+ghost use Rattle.text_output.specs.declared.Mode.the-variants.{Plain, Crlf, Color};
+ghost use Rattle.text_output.specs.Writer.{fresh};
+
+// What stands last outside an escape.
+pub enum Ground {
+    // A newline, or nothing yet.
+    Newline,
+    // A character that is no end, as ZWJ or Prepend.
+    ZwjOrPrepend,
+    // Any other.
+    Other,
+}
+
+// Control-code and escape-sequence state machine.
+pub enum State {
+    // Outside an escape.
+    Ground(Ground),
+    // After ESC.
+    Esc,
+    // In a sequence begun by ESC `[`.
+    Csi,
+}
+
+// Which constructor made the writer: `crlf_compatibility` and `ansi_color` of the Rust, of which no constructor sets both.
+pub enum Mode {
+    Plain,
+    // A newline goes out as 0D 0A.
+    Crlf,
+    // ESC `[` .. `m` is let through.
+    Color,
+}
+
+// The writer's record.
+pub struct TextOutput {
+    pub mode: Mode,
+    // A start is expected: in a fresh record, after a flush and after a close.
+    pub expect_starter: bool,
+    pub state: State,
+    // How many of the first lent places hold characters that wait to be handed out: `buffer` of the Rust.
+    pub kept: usize,
+    // How many characters of an escape in progress are held.
+    pub held: usize,
+    // These characters.
+    pub escape_sequence: [u32; 64],
+}
+
+// A writer, and the character that it hands out on opening.
+pub struct Opened {
+    pub bom: u32,
+    pub writer: TextOutput,
+}
+
+// What a write answers.
+pub enum Wrote {
+    // The first so many places are handed out.
+    HandedOut(usize),
+    // Refused by this number; nothing changed.
+    Refused(u32),
+    // Refused by this number; the caller is to abandon the stream.
+    Abandon(u32),
+    // Refused by 4, for this reason; the caller is to abandon the stream.
+    Unwritable(BasicTextError),
+}
+
+// A write's answer, and the record after it.
+pub struct Written {
+    pub answer: Wrote,
+    pub next: TextOutput,
+}
+
+// The same of a write of bytes, and how many of them were taken: none where it was refused.
+pub struct WrittenBytes {
+    pub used: usize,
+    pub answer: Wrote,
+    pub next: TextOutput,
+}
+
+// What a flush or a close answers.
+pub enum Ended {
+    Done,
+    // Refused by this number; nothing changed.
+    Refused(u32),
+    // Refused by this number; the caller is to abandon the stream.
+    Abandon(u32),
+}
+
+// Its answer, and the record after it.
+pub struct Closed {
+    pub answer: Ended,
+    pub next: TextOutput,
+}
+
+impl TextOutput {
+    // The most characters that an escape can hold: 64.
+    pub const ESCAPE_SEQUENCE_SIZE: usize = 64;
+
+    // The least size of a byte buffer to fill, the scanner's: 136.
+    pub const NORMALIZATION_BUFFER_SIZE: usize = unicode::NORMALIZATION_BUFFER_SIZE;
+
+    // A writer as first made, in a mode.
+    fn in_mode(mode: Mode) -> Self
+        ensures { λ r. ⌜ r ≡ fresh mode ⌝ }
+    {
+        Self {
+            mode,
+            expect_starter: true,
+            state: State::Ground(Ground::Newline),
+            kept: 0,
+            held: 0,
+            escape_sequence: [0u32; 64],
+        }
+    }
+
+    // A plain writer.
+    pub fn new() -> Self
+        ensures { λ r. ⌜ r ≡ fresh Plain ⌝ }
+    {
+        TextOutput::in_mode(Mode::Plain)
+    }
+
+    // A writer that hands out a newline as 0D 0A.
+    pub fn with_crlf_compatibility() -> Self
+        ensures { λ r. ⌜ r ≡ fresh Crlf ⌝ }
+    {
+        TextOutput::in_mode(Mode::Crlf)
+    }
+
+    // A plain writer, and FEFF for the caller to write first. FEFF is no part of the text, so the record is a fresh one.
+    pub fn with_bom_compatibility() -> Opened
+        ensures bom { λ r. ⌜ r .bom ≡ 0xFEFF ⌝ }
+        ensures writer { λ r. ⌜ r .writer ≡ fresh Plain ⌝ }
+    {
+        let writer = TextOutput::in_mode(Mode::Plain);
+        Opened { bom: BOM, writer }
+    }
+
+    // A writer that lets color escapes through.
+    pub fn with_ansi_color() -> Self
+        ensures { λ r. ⌜ r ≡ fresh Color ⌝ }
+    {
+        TextOutput::in_mode(Mode::Color)
+    }
+}
