@@ -1,0 +1,284 @@
+-- Lists of calls on a fresh writer with the answers that the original Rust gives, character by character of what it hands out or
+-- keeps: the definitions give the same, by computing both. Document 01's corners are among them, and each has its line. Assumes nothing.
+--     examples    the table
+use Prim.Native.Nat.{ℕ}
+use mathlib.Core.Bool.{Bool, true, false, cond}
+use mathlib.Core.List.{List, [], _∷_, _++_, map}
+use mathlib.Core.Path.{_≡_, refl}
+use lib.Dec.{eqb}
+use lib.ListN.{take, drop, getD, replicate}
+use Rattle.unicode.specs.Chars.{isChar}
+use Rattle.ranges.specs.Ranges.{member, rises}
+use Rattle.page.specs.Page.{sized, rising, nonstarter, assigned, accepted}
+use Rattle.text_utils.specs.Classes.{starter, graphemeExtendNotCgj, spacingMarkPlus, basicTextStart, basicTextEnd, isPrivateUse}
+use Rattle.replace.specs.Replace.{replaceOf}
+use Rattle.check_char.specs.Check.{reasonOf, checkNumbers}
+use Rattle.isolate_unassigned.specs.Isolate.{unassigned, stepOf as isolateStep, isolateOf}
+use Rattle.text_output.specs.declared.Ground.the-variants.{Newline, ZwjOrPrepend, Other}
+use Rattle.text_output.specs.declared.State.{State}
+use Rattle.text_output.specs.declared.State.the-variants.{Ground, Esc, Csi}
+use Rattle.text_output.specs.declared.Mode.{Mode}
+use Rattle.text_output.specs.declared.Mode.the-variants.{Plain, Crlf, Color}
+use Rattle.text_output.specs.declared.TextOutput.{TextOutput}
+use Rattle.text_output.specs.Writer.{Given, Outcome, fresh}
+use Rattle.text_output.specs.Step.{groundStep, escStep, csiStep, stepsOf}
+use Rattle.text_output.specs.Write.{runOf, parts, moreParts, writeRefusal, writeOf}
+use Rattle.text_output.specs.Close.{flushOf, closeOf, abandonOf}
+
+-- a call: a write brings so many of the places that live with the writer, and characters
+pub data Act : Type 0 where
+  write : ℕ → List ℕ → Act
+  flush close abandon : Act
+
+-- what a call tells: its numbers; whether the caller is to abandon, the state's number, the expectation and the held count; the
+-- characters handed out or kept
+pub record Told : Type 0 where
+  pub numbers : List ℕ
+  pub flags : List ℕ
+  pub chars : List ℕ
+
+abbrev told : List ℕ → List ℕ → List ℕ → Told
+told numbers flags chars = record { numbers = numbers; flags = flags; chars = chars }
+
+pub record Row : Type 0 where
+  pub mode : Mode
+  pub page : List ℕ
+  pub acts : List Act
+  pub expected : List Told
+
+-- ---- what a row's calls give
+-- 0 after a newline, 1 after a non-end, 2 other, 3 after ESC, 4 after ESC `[`
+abbrev stateNumber : State → ℕ
+stateNumber (Ground Newline) = 0
+stateNumber (Ground ZwjOrPrepend) = 1
+stateNumber (Ground Other) = 2
+stateNumber Esc = 3
+stateNumber Csi = 4
+
+abbrev flag : Bool → ℕ
+flag b = cond b 1 0
+
+-- how many of the first places are handed out or kept
+abbrev shown : List ℕ → ℕ → ℕ
+shown numbers kept = cond (eqb (getD numbers 0 0) 0) (getD numbers 1 kept) kept
+
+abbrev tell : Given → List ℕ → Told
+tell g places =
+    told (g .numbers)
+    (flag (g .abandon) ∷ stateNumber (g .next .state) ∷ flag (g .next .«expect_starter») ∷ g .next .held ∷ [])
+    (take (shown (g .numbers) (g .next .kept)) places)
+
+-- a call on a writer and its places
+abbrev act : List ℕ → TextOutput → List ℕ → Act → Outcome
+act p w places (write room chars) =
+    record {
+      given = writeOf w p chars (take room places) .given;
+      places = writeOf w p chars (take room places) .places ++ drop room places;
+    }
+act p w places flush = record { given = flushOf w; places = places }
+act p w places close = record { given = closeOf w; places = places }
+act p w places abandon = record { given = record { numbers = 0 ∷ []; abandon = false; next = abandonOf w }; places = places }
+
+abbrev acted : List ℕ → TextOutput → List ℕ → List Act → List Told
+acted p w places [] = []
+acted p w places (a ∷ more) =
+    tell (act p w places a .given) (act p w places a .places)
+    ∷ acted p (act p w places a .given .next) (act p w places a .places) more
+
+abbrev pub computed : Row → List Told
+computed row = acted (row .page) (fresh (row .mode)) (replicate 16 0xEEEEEEEE) (row .acts)
+
+-- ---- the rows
+unfoldable pub table : List Row
+table =
+    -- a character, a newline, a close
+    record {
+      mode = Plain;
+      page = 0 ∷ 1 ∷ 0 ∷ 0x377 ∷ [];
+      acts = write 16 (0x61 ∷ []) ∷ write 16 (0x0A ∷ []) ∷ close ∷ [];
+      expected =
+          told (0 ∷ 1 ∷ []) (0 ∷ 2 ∷ 0 ∷ 0 ∷ []) (0x61 ∷ []) ∷
+          told (0 ∷ 1 ∷ []) (0 ∷ 0 ∷ 0 ∷ 0 ∷ []) (0x0A ∷ []) ∷
+          told (0 ∷ []) (0 ∷ 0 ∷ 1 ∷ 0 ∷ []) [] ∷
+          [];
+    }
+    -- after 4 the characters before the refused one stay kept, and go out with the next success
+    ∷ record {
+      mode = Plain;
+      page = 0 ∷ 1 ∷ 0 ∷ 0x377 ∷ [];
+      acts = write 16 (0x61 ∷ 0x7F ∷ []) ∷ write 16 (0x0A ∷ []) ∷ [];
+      expected =
+          told (4 ∷ 2 ∷ 0x7F ∷ []) (1 ∷ 0 ∷ 1 ∷ 0 ∷ []) (0x61 ∷ []) ∷
+          told (0 ∷ 2 ∷ []) (0 ∷ 0 ∷ 0 ∷ 0 ∷ []) (0x61 ∷ 0x0A ∷ []) ∷
+          [];
+    }
+    -- a put 34F stays, and abandon leaves what is kept
+    ∷ record {
+      mode = Plain;
+      page = 0 ∷ 1 ∷ 0 ∷ 0x377 ∷ [];
+      acts = write 16 (0x378 ∷ 0x7F ∷ []) ∷ abandon ∷ [];
+      expected =
+          told (4 ∷ 2 ∷ 0x7F ∷ []) (1 ∷ 0 ∷ 1 ∷ 0 ∷ []) (0x34F ∷ 0x378 ∷ 0x34F ∷ []) ∷
+          told (0 ∷ []) (0 ∷ 0 ∷ 1 ∷ 0 ∷ []) (0x34F ∷ 0x378 ∷ 0x34F ∷ []) ∷
+          [];
+    }
+    -- ESC, which the check accepts, is refused by the state machine
+    ∷ record {
+      mode = Plain;
+      page = 0 ∷ 1 ∷ 0 ∷ 0x377 ∷ [];
+      acts = write 16 (0x1B ∷ []) ∷ [];
+      expected = told (4 ∷ 4 ∷ []) (1 ∷ 0 ∷ 1 ∷ 0 ∷ []) [] ∷ [];
+    }
+    -- reason 16 for 2126 names 2126 itself
+    ∷ record {
+      mode = Plain;
+      page = 0 ∷ 1 ∷ 0 ∷ 0x377 ∷ [];
+      acts = write 16 (0x2126 ∷ []) ∷ [];
+      expected = told (4 ∷ 16 ∷ 0x2126 ∷ 1 ∷ 0x2126 ∷ 0 ∷ 0 ∷ []) (1 ∷ 0 ∷ 1 ∷ 0 ∷ []) [] ∷ [];
+    }
+    -- 5 spends the expectation; all stays kept
+    ∷ record {
+      mode = Plain;
+      page = 0 ∷ 1 ∷ 0 ∷ 0x377 ∷ [];
+      acts = write 16 (0x301 ∷ []) ∷ write 16 (0x61 ∷ []) ∷ [];
+      expected =
+          told (5 ∷ []) (1 ∷ 0 ∷ 0 ∷ 0 ∷ []) (0x301 ∷ []) ∷
+          told (0 ∷ 2 ∷ []) (0 ∷ 2 ∷ 0 ∷ 0 ∷ []) (0x301 ∷ 0x61 ∷ []) ∷
+          [];
+    }
+    -- an empty write spends it
+    ∷ record {
+      mode = Plain;
+      page = 0 ∷ 1 ∷ 0 ∷ 0x377 ∷ [];
+      acts = write 16 [] ∷ write 16 (0x301 ∷ []) ∷ [];
+      expected =
+          told (0 ∷ 0 ∷ []) (0 ∷ 0 ∷ 0 ∷ 0 ∷ []) [] ∷
+          told (0 ∷ 1 ∷ []) (0 ∷ 2 ∷ 0 ∷ 0 ∷ []) (0x301 ∷ []) ∷
+          [];
+    }
+    -- five places are one too few for two characters
+    ∷ record {
+      mode = Plain;
+      page = 0 ∷ 1 ∷ 0 ∷ 0x377 ∷ [];
+      acts = write 5 (0x61 ∷ 0x62 ∷ []) ∷ [];
+      expected = told (8 ∷ []) (0 ∷ 0 ∷ 1 ∷ 0 ∷ []) [] ∷ [];
+    }
+    -- a wrong page
+    ∷ record {
+      mode = Plain;
+      page = 0 ∷ 1 ∷ 1 ∷ 0x377 ∷ [];
+      acts = write 16 (0x61 ∷ []) ∷ [];
+      expected = told (0 ∷ 1 ∷ []) (0 ∷ 2 ∷ 0 ∷ 0 ∷ []) (0x61 ∷ []) ∷ [];
+    }
+    -- a value that is no character
+    ∷ record {
+      mode = Plain;
+      page = 0 ∷ 1 ∷ 0 ∷ 0x377 ∷ [];
+      acts = write 16 (0xD800 ∷ []) ∷ [];
+      expected = told (1 ∷ []) (0 ∷ 0 ∷ 1 ∷ 0 ∷ []) [] ∷ [];
+    }
+    -- 1A unassigned by the page: 34F goes before the 1A of a refused character
+    ∷ record {
+      mode = Plain;
+      page = 0 ∷ 2 ∷ 0 ∷ 0x1B ∷ 0x19 ∷ 0x377 ∷ [];
+      acts = write 16 (0x7F ∷ []) ∷ [];
+      expected = told (4 ∷ 2 ∷ 0x7F ∷ []) (1 ∷ 0 ∷ 1 ∷ 0 ∷ []) (0x34F ∷ []) ∷ [];
+    }
+    -- a flush after a non-end leaves the expectation; the next write may begin with any character
+    ∷ record {
+      mode = Plain;
+      page = 0 ∷ 1 ∷ 0 ∷ 0xFFFF ∷ [];
+      acts = write 16 (0x61 ∷ 0x600 ∷ []) ∷ flush ∷ write 16 (0x301 ∷ []) ∷ [];
+      expected =
+          told (0 ∷ 2 ∷ []) (0 ∷ 1 ∷ 0 ∷ 0 ∷ []) (0x61 ∷ 0x600 ∷ []) ∷
+          told (11 ∷ []) (1 ∷ 0 ∷ 0 ∷ 0 ∷ []) [] ∷
+          told (0 ∷ 1 ∷ []) (0 ∷ 2 ∷ 0 ∷ 0 ∷ []) (0x301 ∷ []) ∷
+          [];
+    }
+    -- a flush expects a start again
+    ∷ record {
+      mode = Plain;
+      page = 0 ∷ 1 ∷ 0 ∷ 0x377 ∷ [];
+      acts = write 16 (0x0A ∷ []) ∷ flush ∷ write 16 (0x301 ∷ []) ∷ [];
+      expected =
+          told (0 ∷ 1 ∷ []) (0 ∷ 0 ∷ 0 ∷ 0 ∷ []) (0x0A ∷ []) ∷
+          told (0 ∷ []) (0 ∷ 0 ∷ 1 ∷ 0 ∷ []) [] ∷
+          told (5 ∷ []) (1 ∷ 0 ∷ 0 ∷ 0 ∷ []) (0x301 ∷ []) ∷
+          [];
+    }
+    -- a second close after one refused by 11 succeeds
+    ∷ record {
+      mode = Plain;
+      page = 0 ∷ 1 ∷ 0 ∷ 0xFFFF ∷ [];
+      acts = write 16 (0x61 ∷ 0x600 ∷ []) ∷ close ∷ close ∷ [];
+      expected =
+          told (0 ∷ 2 ∷ []) (0 ∷ 1 ∷ 0 ∷ 0 ∷ []) (0x61 ∷ 0x600 ∷ []) ∷
+          told (11 ∷ []) (1 ∷ 0 ∷ 1 ∷ 0 ∷ []) [] ∷
+          told (0 ∷ []) (0 ∷ 0 ∷ 1 ∷ 0 ∷ []) [] ∷
+          [];
+    }
+    -- CRLF: 0D 0A stays kept
+    ∷ record {
+      mode = Crlf;
+      page = 0 ∷ 1 ∷ 0 ∷ 0x377 ∷ [];
+      acts = write 16 (0x61 ∷ 0x0A ∷ 0x7F ∷ []) ∷ write 16 (0x0A ∷ []) ∷ [];
+      expected =
+          told (4 ∷ 2 ∷ 0x7F ∷ []) (1 ∷ 0 ∷ 1 ∷ 0 ∷ []) (0x61 ∷ 0xD ∷ 0x0A ∷ []) ∷
+          told (0 ∷ 5 ∷ []) (0 ∷ 0 ∷ 0 ∷ 0 ∷ []) (0x61 ∷ 0xD ∷ 0x0A ∷ 0xD ∷ 0x0A ∷ []) ∷
+          [];
+    }
+    -- CRLF: each part is isolated alone
+    ∷ record {
+      mode = Crlf;
+      page = 0 ∷ 1 ∷ 0 ∷ 0x377 ∷ [];
+      acts = write 16 (0x378 ∷ 0x0A ∷ 0x378 ∷ 0x0A ∷ []) ∷ close ∷ [];
+      expected =
+          told (0 ∷ 10 ∷ []) (0 ∷ 0 ∷ 0 ∷ 0 ∷ []) (0x34F ∷ 0x378 ∷ 0x34F ∷ 0xD ∷ 0x0A ∷ 0x34F ∷ 0x378 ∷ 0x34F ∷ 0xD ∷ 0x0A ∷ []) ∷
+          told (0 ∷ []) (0 ∷ 0 ∷ 1 ∷ 0 ∷ []) [] ∷
+          [];
+    }
+    -- color: an escape in progress is held from write to write
+    ∷ record {
+      mode = Color;
+      page = 0 ∷ 1 ∷ 0 ∷ 0x377 ∷ [];
+      acts = write 16 (0x61 ∷ 0x1B ∷ 0x5B ∷ []) ∷ write 16 (0x31 ∷ 0x6D ∷ []) ∷ close ∷ close ∷ [];
+      expected =
+          told (0 ∷ 1 ∷ []) (0 ∷ 4 ∷ 0 ∷ 2 ∷ []) (0x61 ∷ []) ∷
+          told (0 ∷ 4 ∷ []) (0 ∷ 2 ∷ 0 ∷ 0 ∷ []) (0x1B ∷ 0x5B ∷ 0x31 ∷ 0x6D ∷ []) ∷
+          told (12 ∷ []) (1 ∷ 0 ∷ 1 ∷ 0 ∷ []) [] ∷
+          told (0 ∷ []) (0 ∷ 0 ∷ 1 ∷ 0 ∷ []) [] ∷
+          [];
+    }
+    -- color: the characters of an escape in progress are not kept
+    ∷ record {
+      mode = Color;
+      page = 0 ∷ 1 ∷ 0 ∷ 0x377 ∷ [];
+      acts = write 16 (0x61 ∷ 0x1B ∷ 0x5B ∷ 0x41 ∷ []) ∷ [];
+      expected = told (4 ∷ 15 ∷ []) (1 ∷ 0 ∷ 1 ∷ 0 ∷ []) (0x61 ∷ []) ∷ [];
+    }
+    -- in an escape, a refused character gives reason 15
+    ∷ record {
+      mode = Color;
+      page = 0 ∷ 1 ∷ 0 ∷ 0x377 ∷ [];
+      acts = write 16 (0x1B ∷ 0x7F ∷ []) ∷ [];
+      expected = told (4 ∷ 15 ∷ []) (1 ∷ 0 ∷ 1 ∷ 0 ∷ []) [] ∷ [];
+    }
+    -- a flush refused by 13 changes nothing; a second close after 13 succeeds
+    ∷ record {
+      mode = Color;
+      page = 0 ∷ 1 ∷ 0 ∷ 0x377 ∷ [];
+      acts = write 16 (0x1B ∷ []) ∷ flush ∷ close ∷ close ∷ [];
+      expected =
+          told (0 ∷ 0 ∷ []) (0 ∷ 3 ∷ 0 ∷ 1 ∷ []) [] ∷
+          told (13 ∷ []) (0 ∷ 3 ∷ 0 ∷ 1 ∷ []) [] ∷
+          told (13 ∷ []) (1 ∷ 0 ∷ 1 ∷ 0 ∷ []) [] ∷
+          told (0 ∷ []) (0 ∷ 0 ∷ 1 ∷ 0 ∷ []) [] ∷
+          [];
+    }
+    ∷ []
+
+pub examples : map computed table ≡ map (λ (row : Row). row .expected) table
+unfolding table writeOf writeRefusal runOf parts moreParts stepsOf groundStep escStep csiStep flushOf closeOf abandonOf isChar
+    replaceOf reasonOf checkNumbers basicTextStart basicTextEnd starter graphemeExtendNotCgj spacingMarkPlus isPrivateUse
+    unassigned isolateStep isolateOf accepted sized rising nonstarter assigned member rises
+examples = refl
