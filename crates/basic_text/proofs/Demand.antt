@@ -2,18 +2,17 @@
 -- one reading (`whole`, `exists`, `unique` of text_input), and that is what the plain writer lets through and closes on
 -- (proofs/Holds.antt; `passes-plain` of text_output). Assumes nothing.
 --     demand3    the theorem
-use Prim.Native.Nat.{ℕ, _+_, _≤_}
+use Prim.Native.Nat.{ℕ, _≤_}
 use native.Mathlib.Nat.{zero-add}
-use mathlib.Core.Bool.{Bool, true, not}
-use mathlib.Core.List.{List, [], _∷_, _++_, flatten}
-use mathlib.Core.Path.{_≡_, refl, sym, _∙_}
+use mathlib.Core.Bool.{true, not}
+use mathlib.Core.List.{List, flatten}
+use mathlib.Core.Path.{_≡_, _∙_}
 use lib.ListN.{length}
 use Rattle.unicode.specs.Chars.{areChars}
 use Rattle.page.specs.Page.{accepted}
 use Rattle.replace.specs.Table.{any}
 use Rattle.check_char.specs.Check.{kept, clean, all}
 use Rattle.text_input.specs.declared.Options.{Options}
-use Rattle.text_input.specs.declared.TextInput.{TextInput}
 use Rattle.text_input.specs.Scan.{Outcome, fresh}
 use Rattle.text_input.specs.Pieces.{Piece, Reading, cleaned}
 use Rattle.text_input.proofs.Unique.{exists, unique}
@@ -26,7 +25,7 @@ use Rattle.text_output.specs.Passing.{Passes}
 use Rattle.text_output.proofs.Writable.{writable-of}
 use Rattle.text_output.proofs.Passing.{startsWell, endsWell, passes-plain}
 use Rattle.basic_text.specs.Calls.{Call, Seen, queueOf, recordAfter, acceptedFrom, acceptedChunks, textOf, FinishedOnce}
-use Rattle.basic_text.specs.Demand.{ExactlyOne, OneReading, Demand3}
+use Rattle.basic_text.specs.Demand.{ExactlyOne, Promise, Demand3}
 use Rattle.basic_text.proofs.Holds.{cleaned-starts, cleaned-ends, whole-clean, whole-chars}
 use Rattle.basic_text.proofs.Listed.{queue-listed, count-listed, chars-listed}
 
@@ -75,7 +74,7 @@ module _ (page : List ℕ) (good : accepted page ≡ true) (options : Options) (
   passes-is none places room wrote w closed c =
       rw (c, w) (passes-plain page good queue places queue-chars (writable-of queue queue-clean none) queue-starts queue-ends room)
 
-  theorem : OneReading page options calls queue (recordAfter fresh seen)
+  theorem : Promise page options calls queue (recordAfter fresh seen)
   theorem =
       record { reading = one-reading options; image = image-is; count = count-is; holds = queue-clean; passes = passes-is }
 

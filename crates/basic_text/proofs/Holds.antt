@@ -7,15 +7,15 @@
 --     whole-chars       and characters
 --     chars-append      characters joined to characters
 use Prim.Native.Nat.{ℕ}
-use mathlib.Core.Bool.{Bool, true, false, cond, not, _&&_}
+use mathlib.Core.Bool.{Bool, true, false, cond}
 use mathlib.Core.List.{List, [], _∷_, _++_, append-nil, flatten}
-use mathlib.Core.Path.{_≡_, refl, ap, sym, _∙_}
+use mathlib.Core.Path.{_≡_, refl}
 use lib.Dec.{T, eqb}
 use borrow.Author.Tests.{eqb-true}
 use Rattle.unicode.specs.Chars.{isChar, areChars}
-use Rattle.unicode.proofs.Kit.{never, by, split, both-true, both}
+use Rattle.unicode.proofs.Kit.{never, split, both-true, both}
 use Rattle.page.specs.Page.{accepted}
-use Rattle.text_utils.specs.Classes.{basicTextStart, basicTextEnd}
+use Rattle.text_utils.specs.Classes.{basicTextStart}
 use Rattle.text_utils.proofs.Classes.{start-newline, start-joiner, end-newline}
 use Rattle.check_char.specs.Check.{clean, all}
 use Rattle.text_input.specs.declared.Options.{Options}

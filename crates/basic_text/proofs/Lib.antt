@@ -1,4 +1,4 @@
--- Laws that the proofs share.
+-- The laws that the exports' proofs share; then demand 3 with what leads to it.
 pub mod Laws
 pub mod Crossing
 pub mod Stores

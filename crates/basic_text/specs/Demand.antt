@@ -24,8 +24,8 @@ pub record ExactlyOne (A : Type 0) (P : A → Type 0) : Type 0 where
   pub is : P one
   pub only : (other : A) → P other → other ≡ one
 
--- of a page, options, calls, the queue and the record after the calls
-pub record OneReading (page : List ℕ) (options : Options) (calls : List Call) (queue : List ℕ) (last : TextInput) : Type 0 where
+-- what is promised of a page, options, calls, the queue and the record after the calls
+pub record Promise (page : List ℕ) (options : Options) (calls : List Call) (queue : List ℕ) (last : TextInput) : Type 0 where
   -- "A reading of a text is a list of pieces that joined give it, each the longest these rules allow at its place.": every text has
   -- exactly one
   pub reading : (text : List ℕ) → ExactlyOne (List Piece) (λ (xs : List Piece). Reading options text xs)
@@ -33,8 +33,8 @@ pub record OneReading (page : List ℕ) (options : Options) (calls : List Call) 
   pub image : (xs : List Piece) → Reading options (textOf calls) xs → queue ≡ cleaned page xs
   -- "The record holds a 32-bit count of characters taken, dropped ones included.": those of the accepted chunks
   pub count : last .count ≡ length (flatten (acceptedChunks calls))
-  -- the queue holds no ESC, and nothing that the check refuses but 2126, 212A, 212B and "the ideographs excepted .. that
-  -- `check_basic_text_char` lists"
+  -- the queue holds no ESC, and nothing that the check refuses but 2126, 212A, 212B and the ideographs: "The ideographs
+  -- excepted are those that `check_basic_text_char` lists."
   pub holds : all clean queue ≡ true
   -- holding none of these, it passes: "The write and the close are on a writer record of their own, the close on the one that the
   -- write returned. Enough room is at least what a write of that length needs."
@@ -49,4 +49,4 @@ Demand3 =
     (page : List ℕ) → accepted page ≡ true → (options : Options) →
     (calls : List Call) → FinishedOnce page options (acceptedFrom 0 calls) →
     (seen : List Outcome) → Seen fresh calls seen →
-    OneReading page options calls (queueOf seen) (recordAfter fresh seen)
+    Promise page options calls (queueOf seen) (recordAfter fresh seen)

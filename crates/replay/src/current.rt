@@ -1,11 +1,11 @@
 // The operation `P`: the current page, which stands in a lent buffer from its first place on.
 use crate::State;
-use crate::answer;
-use crate::answer::Why;
-use crate::front;
-use crate::words;
-use crate::words::Rest;
-use crate::words::Stored;
+use protocol::answer;
+use protocol::answer::Why;
+use protocol::front;
+use protocol::words;
+use protocol::words::Rest;
+use protocol::words::Stored;
 ghost use mathlib.Core.Path.{_≡_};
 ghost use lib.ListN.{length};
 
@@ -35,16 +35,26 @@ fn keep(given: &[u32], page: &mut [u32]) -> usize {
     i
 }
 
+// Says whether the numbers given are a page.
+fn verdict(given: &[u32], out: &mut [u8], at: usize) -> usize {
+    let end = answer::flag(out, at, b"page ", page::is_accepted(given));
+    answer::byte(out, end, b'\n')
+}
+
 // Makes the numbers given the current page, right or wrong, and says which.
 fn set(given: &[u32], page: &mut [u32], out: &mut [u8], state: State) -> State {
     let mut new = state;
     new.page = keep(given, page);
-    if page::is_accepted(given) {
-        new.out = answer::text(out, state.out, b"page 1\n");
-    } else {
-        new.out = answer::text(out, state.out, b"page 0\n");
-    }
+    new.out = verdict(given, out, state.out);
     new
+}
+
+// The numbers of the line, stored.
+fn stored(line: &[u8], numbers: &mut [u32]) -> Stored {
+    match words::after(line, b"P") {
+        Rest::Other => Stored::Bad(Why::Word),
+        Rest::At(place) => words::numbers(line, place, numbers),
+    }
 }
 
 // Answers a line whose first letter is P.
@@ -55,10 +65,7 @@ pub fn operate(
     out: &mut [u8],
     state: State,
 ) -> State {
-    let Rest::At(place) = words::after(line, b"P") else {
-        return state.refuse(out, Why::Word);
-    };
-    match words::numbers(line, place, numbers) {
+    match stored(line, numbers) {
         Stored::Bad(why) => state.refuse(out, why),
         Stored::All(n) => set(front::numbers(numbers, n), page, out, state),
     }

@@ -1,23 +1,20 @@
 // Replays operations of the library: reads them from standard input, one to a line, and writes an
 // answer line for each to standard output. Here are the buffers, the loop over the input, and the
-// way from a line to the module that answers it.
+// way from a line to what answers it: the module `current` for `P`, the crate `leaf_calls` for `L`, and
+// the modules of the crate `stream_calls` for the other letters.
 //
 // A function that answers is lent the buffers: line, the operation; numbers, for the numbers that
 // it gives; page, the current page; places, for what an entry stores; and out, the answers that
 // wait to be written.
-mod answer;
-mod blank;
 mod current;
-mod filling;
-mod front;
-mod leaves;
-mod lent;
-mod lines;
-mod scanner;
-mod words;
 
-use answer::Why;
 use libc::STDIN_FILENO;
+use protocol::answer;
+use protocol::answer::Why;
+use protocol::front;
+use protocol::lines;
+use stream_calls::filling;
+use stream_calls::scanner;
 use text_input::TextInput;
 
 // What lasts from line to line beside the lent buffers.
@@ -50,7 +47,25 @@ impl State {
     }
 }
 
-// Answers a line: its first letter says which module has the operation.
+// Answers a line whose first letter is S.
+fn scan(
+    line: &[u8],
+    numbers: &mut [u32],
+    page: &[u32],
+    places: &mut [u32],
+    out: &mut [u8],
+    state: State,
+) -> State {
+    let before = state.scanner;
+    let done = scanner::operate(line, numbers, page, places, out, state.out, before);
+    let after = done.scanner;
+    let mut new = state;
+    new.scanner = after;
+    new.out = done.out;
+    new
+}
+
+// Answers a line: its first letter says which crate or module has the operation.
 fn operate(
     line: &[u8],
     numbers: &mut [u32],
@@ -65,10 +80,10 @@ fn operate(
         new = current::operate(line, numbers, page, out, state);
     } else if first == b'L' {
         let now = front::numbers(page, state.page);
-        new.out = leaves::operate(line, numbers, now, places, out, state.out);
+        new.out = leaf_calls::operate(line, numbers, now, places, out, state.out);
     } else if first == b'S' {
         let now = front::numbers(page, state.page);
-        new = scanner::operate(line, numbers, now, places, out, state);
+        new = scan(line, numbers, now, places, out, state);
     } else if first == b'F' {
         new.out = filling::operate(line, numbers, out, state.out);
     } else {
@@ -99,6 +114,24 @@ fn end_line(
     new.refuse(out, Why::Long)
 }
 
+// Takes a byte of the input: it belongs to the line, or ends it.
+fn take_byte(
+    b: u8,
+    line: &mut [u8],
+    numbers: &mut [u32],
+    page: &mut [u32],
+    places: &mut [u32],
+    out: &mut [u8],
+    state: State,
+) -> State {
+    if b == b'\n' {
+        return end_line(line, numbers, page, places, out, state);
+    }
+    let mut new = state;
+    new.line = lines::push(line, state.line, b);
+    new
+}
+
 // Takes a block of the input, and answers each line that ends in it.
 fn take_block(
     block: &[u8],
@@ -112,12 +145,7 @@ fn take_block(
     let mut state = start;
     let mut i = 0;
     while i < block.len() {
-        let b = block[i];
-        if b == b'\n' {
-            state = end_line(line, numbers, page, places, out, state);
-        } else {
-            state.line = lines::push(line, state.line, b);
-        }
+        state = take_byte(block[i], line, numbers, page, places, out, state);
         i += 1;
     }
     state

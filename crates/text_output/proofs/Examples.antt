@@ -1,8 +1,9 @@
--- Lists of calls on a fresh writer with the answers that the original Rust gives, character by character of what it hands out or
--- keeps: the definitions give the same, by computing both. Document 01's corners are among them, and each has its line. Assumes nothing.
+-- Lists of calls on a fresh writer, with the answers of the comparison's oracle, which is the original Rust with what document 01 adds:
+-- the definitions give the same, character by character of what is handed out or kept, by computing both. Writes of bytes are not
+-- among them: their definition looks through all characters, which is too much to compute. Assumes nothing.
 --     examples    the table
 use Prim.Native.Nat.{ℕ}
-use mathlib.Core.Bool.{Bool, true, false, cond}
+use mathlib.Core.Bool.{Bool, cond}
 use mathlib.Core.List.{List, [], _∷_, _++_, map}
 use mathlib.Core.Path.{_≡_, refl}
 use lib.Dec.{eqb}
@@ -23,12 +24,14 @@ use Rattle.text_output.specs.declared.TextOutput.{TextOutput}
 use Rattle.text_output.specs.Writer.{Given, Outcome, fresh}
 use Rattle.text_output.specs.Step.{groundStep, escStep, csiStep, stepsOf}
 use Rattle.text_output.specs.Write.{runOf, parts, moreParts, writeRefusal, writeOf}
-use Rattle.text_output.specs.Close.{flushOf, closeOf, abandonOf}
+use Rattle.text_output.specs.Close.{done, flushOf, closeOf, abandonOf}
 
--- a call: a write brings so many of the places that live with the writer, and characters
+-- a call: a write brings so many of the places that live with the writer, and characters; or, between two calls, the record claims
+-- so many held
 pub data Act : Type 0 where
   write : ℕ → List ℕ → Act
   flush close abandon : Act
+  claim : ℕ → Act
 
 -- what a call tells: its numbers; whether the caller is to abandon, the state's number, the expectation and the held count; the
 -- characters handed out or kept
@@ -58,15 +61,27 @@ stateNumber Csi = 4
 abbrev flag : Bool → ℕ
 flag b = cond b 1 0
 
--- how many of the first places are handed out or kept
+-- how many of the first places are handed out, or kept
 abbrev shown : List ℕ → ℕ → ℕ
-shown numbers kept = cond (eqb (getD numbers 0 0) 0) (getD numbers 1 kept) kept
+shown [] kept = kept
+shown (n ∷ ns) kept = cond (eqb n 0) (getD ns 0 0) kept
 
 abbrev tell : Given → List ℕ → Told
 tell g places =
     told (g .numbers)
     (flag (g .abandon) ∷ stateNumber (g .next .state) ∷ flag (g .next .«expect_starter») ∷ g .next .held ∷ [])
     (take (shown (g .numbers) (g .next .kept)) places)
+
+abbrev claiming : TextOutput → ℕ → TextOutput
+claiming w n =
+    record {
+      mode = w .mode;
+      «expect_starter» = w .«expect_starter»;
+      state = w .state;
+      kept = w .kept;
+      held = n;
+      «escape_sequence» = w .«escape_sequence»;
+    }
 
 -- a call on a writer and its places
 abbrev act : List ℕ → TextOutput → List ℕ → Act → Outcome
@@ -77,7 +92,8 @@ act p w places (write room chars) =
     }
 act p w places flush = record { given = flushOf w; places = places }
 act p w places close = record { given = closeOf w; places = places }
-act p w places abandon = record { given = record { numbers = 0 ∷ []; abandon = false; next = abandonOf w }; places = places }
+act p w places abandon = record { given = done (abandonOf w); places = places }
+act p w places (claim n) = record { given = done (claiming w n); places = places }
 
 abbrev acted : List ℕ → TextOutput → List ℕ → List Act → List Told
 acted p w places [] = []
@@ -86,7 +102,7 @@ acted p w places (a ∷ more) =
     ∷ acted p (act p w places a .given .next) (act p w places a .places) more
 
 abbrev pub computed : Row → List Told
-computed row = acted (row .page) (fresh (row .mode)) (replicate 16 0xEEEEEEEE) (row .acts)
+computed row = acted (row .page) (fresh (row .mode)) (replicate 200 0xEEEEEEEE) (row .acts)
 
 -- ---- the rows
 unfoldable pub table : List Row
@@ -95,18 +111,18 @@ table =
     record {
       mode = Plain;
       page = 0 ∷ 1 ∷ 0 ∷ 0x377 ∷ [];
-      acts = write 16 (0x61 ∷ []) ∷ write 16 (0x0A ∷ []) ∷ close ∷ [];
+      acts = write 200 (0x61 ∷ []) ∷ write 200 (0x0A ∷ []) ∷ close ∷ [];
       expected =
           told (0 ∷ 1 ∷ []) (0 ∷ 2 ∷ 0 ∷ 0 ∷ []) (0x61 ∷ []) ∷
           told (0 ∷ 1 ∷ []) (0 ∷ 0 ∷ 0 ∷ 0 ∷ []) (0x0A ∷ []) ∷
-          told (0 ∷ []) (0 ∷ 0 ∷ 1 ∷ 0 ∷ []) [] ∷
+          told [] (0 ∷ 0 ∷ 1 ∷ 0 ∷ []) [] ∷
           [];
     }
     -- after 4 the characters before the refused one stay kept, and go out with the next success
     ∷ record {
       mode = Plain;
       page = 0 ∷ 1 ∷ 0 ∷ 0x377 ∷ [];
-      acts = write 16 (0x61 ∷ 0x7F ∷ []) ∷ write 16 (0x0A ∷ []) ∷ [];
+      acts = write 200 (0x61 ∷ 0x7F ∷ []) ∷ write 200 (0x0A ∷ []) ∷ [];
       expected =
           told (4 ∷ 2 ∷ 0x7F ∷ []) (1 ∷ 0 ∷ 1 ∷ 0 ∷ []) (0x61 ∷ []) ∷
           told (0 ∷ 2 ∷ []) (0 ∷ 0 ∷ 0 ∷ 0 ∷ []) (0x61 ∷ 0x0A ∷ []) ∷
@@ -116,31 +132,31 @@ table =
     ∷ record {
       mode = Plain;
       page = 0 ∷ 1 ∷ 0 ∷ 0x377 ∷ [];
-      acts = write 16 (0x378 ∷ 0x7F ∷ []) ∷ abandon ∷ [];
+      acts = write 200 (0x378 ∷ 0x7F ∷ []) ∷ abandon ∷ [];
       expected =
           told (4 ∷ 2 ∷ 0x7F ∷ []) (1 ∷ 0 ∷ 1 ∷ 0 ∷ []) (0x34F ∷ 0x378 ∷ 0x34F ∷ []) ∷
-          told (0 ∷ []) (0 ∷ 0 ∷ 1 ∷ 0 ∷ []) (0x34F ∷ 0x378 ∷ 0x34F ∷ []) ∷
+          told [] (0 ∷ 0 ∷ 1 ∷ 0 ∷ []) (0x34F ∷ 0x378 ∷ 0x34F ∷ []) ∷
           [];
     }
     -- ESC, which the check accepts, is refused by the state machine
     ∷ record {
       mode = Plain;
       page = 0 ∷ 1 ∷ 0 ∷ 0x377 ∷ [];
-      acts = write 16 (0x1B ∷ []) ∷ [];
+      acts = write 200 (0x1B ∷ []) ∷ [];
       expected = told (4 ∷ 4 ∷ []) (1 ∷ 0 ∷ 1 ∷ 0 ∷ []) [] ∷ [];
     }
     -- reason 16 for 2126 names 2126 itself
     ∷ record {
       mode = Plain;
       page = 0 ∷ 1 ∷ 0 ∷ 0x377 ∷ [];
-      acts = write 16 (0x2126 ∷ []) ∷ [];
+      acts = write 200 (0x2126 ∷ []) ∷ [];
       expected = told (4 ∷ 16 ∷ 0x2126 ∷ 1 ∷ 0x2126 ∷ 0 ∷ 0 ∷ []) (1 ∷ 0 ∷ 1 ∷ 0 ∷ []) [] ∷ [];
     }
     -- 5 spends the expectation; all stays kept
     ∷ record {
       mode = Plain;
       page = 0 ∷ 1 ∷ 0 ∷ 0x377 ∷ [];
-      acts = write 16 (0x301 ∷ []) ∷ write 16 (0x61 ∷ []) ∷ [];
+      acts = write 200 (0x301 ∷ []) ∷ write 200 (0x61 ∷ []) ∷ [];
       expected =
           told (5 ∷ []) (1 ∷ 0 ∷ 0 ∷ 0 ∷ []) (0x301 ∷ []) ∷
           told (0 ∷ 2 ∷ []) (0 ∷ 2 ∷ 0 ∷ 0 ∷ []) (0x301 ∷ 0x61 ∷ []) ∷
@@ -150,7 +166,7 @@ table =
     ∷ record {
       mode = Plain;
       page = 0 ∷ 1 ∷ 0 ∷ 0x377 ∷ [];
-      acts = write 16 [] ∷ write 16 (0x301 ∷ []) ∷ [];
+      acts = write 200 [] ∷ write 200 (0x301 ∷ []) ∷ [];
       expected =
           told (0 ∷ 0 ∷ []) (0 ∷ 0 ∷ 0 ∷ 0 ∷ []) [] ∷
           told (0 ∷ 1 ∷ []) (0 ∷ 2 ∷ 0 ∷ 0 ∷ []) (0x301 ∷ []) ∷
@@ -163,32 +179,32 @@ table =
       acts = write 5 (0x61 ∷ 0x62 ∷ []) ∷ [];
       expected = told (8 ∷ []) (0 ∷ 0 ∷ 1 ∷ 0 ∷ []) [] ∷ [];
     }
-    -- a wrong page
+    -- 34F unassigned: a wrong page
     ∷ record {
       mode = Plain;
-      page = 0 ∷ 1 ∷ 1 ∷ 0x377 ∷ [];
-      acts = write 16 (0x61 ∷ []) ∷ [];
-      expected = told (0 ∷ 1 ∷ []) (0 ∷ 2 ∷ 0 ∷ 0 ∷ []) (0x61 ∷ []) ∷ [];
+      page = 0 ∷ 1 ∷ 0 ∷ 0x34E ∷ [];
+      acts = write 200 (0x61 ∷ []) ∷ [];
+      expected = told (2 ∷ []) (0 ∷ 0 ∷ 1 ∷ 0 ∷ []) [] ∷ [];
     }
     -- a value that is no character
     ∷ record {
       mode = Plain;
       page = 0 ∷ 1 ∷ 0 ∷ 0x377 ∷ [];
-      acts = write 16 (0xD800 ∷ []) ∷ [];
+      acts = write 200 (0xD800 ∷ []) ∷ [];
       expected = told (1 ∷ []) (0 ∷ 0 ∷ 1 ∷ 0 ∷ []) [] ∷ [];
     }
     -- 1A unassigned by the page: 34F goes before the 1A of a refused character
     ∷ record {
       mode = Plain;
       page = 0 ∷ 2 ∷ 0 ∷ 0x1B ∷ 0x19 ∷ 0x377 ∷ [];
-      acts = write 16 (0x7F ∷ []) ∷ [];
+      acts = write 200 (0x7F ∷ []) ∷ [];
       expected = told (4 ∷ 2 ∷ 0x7F ∷ []) (1 ∷ 0 ∷ 1 ∷ 0 ∷ []) (0x34F ∷ []) ∷ [];
     }
     -- a flush after a non-end leaves the expectation; the next write may begin with any character
     ∷ record {
       mode = Plain;
       page = 0 ∷ 1 ∷ 0 ∷ 0xFFFF ∷ [];
-      acts = write 16 (0x61 ∷ 0x600 ∷ []) ∷ flush ∷ write 16 (0x301 ∷ []) ∷ [];
+      acts = write 200 (0x61 ∷ 0x600 ∷ []) ∷ flush ∷ write 200 (0x301 ∷ []) ∷ [];
       expected =
           told (0 ∷ 2 ∷ []) (0 ∷ 1 ∷ 0 ∷ 0 ∷ []) (0x61 ∷ 0x600 ∷ []) ∷
           told (11 ∷ []) (1 ∷ 0 ∷ 0 ∷ 0 ∷ []) [] ∷
@@ -199,10 +215,10 @@ table =
     ∷ record {
       mode = Plain;
       page = 0 ∷ 1 ∷ 0 ∷ 0x377 ∷ [];
-      acts = write 16 (0x0A ∷ []) ∷ flush ∷ write 16 (0x301 ∷ []) ∷ [];
+      acts = write 200 (0x0A ∷ []) ∷ flush ∷ write 200 (0x301 ∷ []) ∷ [];
       expected =
           told (0 ∷ 1 ∷ []) (0 ∷ 0 ∷ 0 ∷ 0 ∷ []) (0x0A ∷ []) ∷
-          told (0 ∷ []) (0 ∷ 0 ∷ 1 ∷ 0 ∷ []) [] ∷
+          told [] (0 ∷ 0 ∷ 1 ∷ 0 ∷ []) [] ∷
           told (5 ∷ []) (1 ∷ 0 ∷ 0 ∷ 0 ∷ []) (0x301 ∷ []) ∷
           [];
     }
@@ -210,18 +226,18 @@ table =
     ∷ record {
       mode = Plain;
       page = 0 ∷ 1 ∷ 0 ∷ 0xFFFF ∷ [];
-      acts = write 16 (0x61 ∷ 0x600 ∷ []) ∷ close ∷ close ∷ [];
+      acts = write 200 (0x61 ∷ 0x600 ∷ []) ∷ close ∷ close ∷ [];
       expected =
           told (0 ∷ 2 ∷ []) (0 ∷ 1 ∷ 0 ∷ 0 ∷ []) (0x61 ∷ 0x600 ∷ []) ∷
           told (11 ∷ []) (1 ∷ 0 ∷ 1 ∷ 0 ∷ []) [] ∷
-          told (0 ∷ []) (0 ∷ 0 ∷ 1 ∷ 0 ∷ []) [] ∷
+          told [] (0 ∷ 0 ∷ 1 ∷ 0 ∷ []) [] ∷
           [];
     }
     -- CRLF: 0D 0A stays kept
     ∷ record {
       mode = Crlf;
       page = 0 ∷ 1 ∷ 0 ∷ 0x377 ∷ [];
-      acts = write 16 (0x61 ∷ 0x0A ∷ 0x7F ∷ []) ∷ write 16 (0x0A ∷ []) ∷ [];
+      acts = write 200 (0x61 ∷ 0x0A ∷ 0x7F ∷ []) ∷ write 200 (0x0A ∷ []) ∷ [];
       expected =
           told (4 ∷ 2 ∷ 0x7F ∷ []) (1 ∷ 0 ∷ 1 ∷ 0 ∷ []) (0x61 ∷ 0xD ∷ 0x0A ∷ []) ∷
           told (0 ∷ 5 ∷ []) (0 ∷ 0 ∷ 0 ∷ 0 ∷ []) (0x61 ∷ 0xD ∷ 0x0A ∷ 0xD ∷ 0x0A ∷ []) ∷
@@ -231,48 +247,78 @@ table =
     ∷ record {
       mode = Crlf;
       page = 0 ∷ 1 ∷ 0 ∷ 0x377 ∷ [];
-      acts = write 16 (0x378 ∷ 0x0A ∷ 0x378 ∷ 0x0A ∷ []) ∷ close ∷ [];
+      acts = write 200 (0x378 ∷ 0x0A ∷ 0x378 ∷ 0x0A ∷ []) ∷ close ∷ [];
       expected =
           told (0 ∷ 10 ∷ []) (0 ∷ 0 ∷ 0 ∷ 0 ∷ []) (0x34F ∷ 0x378 ∷ 0x34F ∷ 0xD ∷ 0x0A ∷ 0x34F ∷ 0x378 ∷ 0x34F ∷ 0xD ∷ 0x0A ∷ []) ∷
-          told (0 ∷ []) (0 ∷ 0 ∷ 1 ∷ 0 ∷ []) [] ∷
+          told [] (0 ∷ 0 ∷ 1 ∷ 0 ∷ []) [] ∷
           [];
     }
     -- color: an escape in progress is held from write to write
     ∷ record {
       mode = Color;
       page = 0 ∷ 1 ∷ 0 ∷ 0x377 ∷ [];
-      acts = write 16 (0x61 ∷ 0x1B ∷ 0x5B ∷ []) ∷ write 16 (0x31 ∷ 0x6D ∷ []) ∷ close ∷ close ∷ [];
+      acts = write 200 (0x61 ∷ 0x1B ∷ 0x5B ∷ []) ∷ write 200 (0x31 ∷ 0x6D ∷ []) ∷ close ∷ close ∷ [];
       expected =
           told (0 ∷ 1 ∷ []) (0 ∷ 4 ∷ 0 ∷ 2 ∷ []) (0x61 ∷ []) ∷
           told (0 ∷ 4 ∷ []) (0 ∷ 2 ∷ 0 ∷ 0 ∷ []) (0x1B ∷ 0x5B ∷ 0x31 ∷ 0x6D ∷ []) ∷
           told (12 ∷ []) (1 ∷ 0 ∷ 1 ∷ 0 ∷ []) [] ∷
-          told (0 ∷ []) (0 ∷ 0 ∷ 1 ∷ 0 ∷ []) [] ∷
+          told [] (0 ∷ 0 ∷ 1 ∷ 0 ∷ []) [] ∷
           [];
     }
     -- color: the characters of an escape in progress are not kept
     ∷ record {
       mode = Color;
       page = 0 ∷ 1 ∷ 0 ∷ 0x377 ∷ [];
-      acts = write 16 (0x61 ∷ 0x1B ∷ 0x5B ∷ 0x41 ∷ []) ∷ [];
+      acts = write 200 (0x61 ∷ 0x1B ∷ 0x5B ∷ 0x41 ∷ []) ∷ [];
       expected = told (4 ∷ 15 ∷ []) (1 ∷ 0 ∷ 1 ∷ 0 ∷ []) (0x61 ∷ []) ∷ [];
     }
     -- in an escape, a refused character gives reason 15
     ∷ record {
       mode = Color;
       page = 0 ∷ 1 ∷ 0 ∷ 0x377 ∷ [];
-      acts = write 16 (0x1B ∷ 0x7F ∷ []) ∷ [];
+      acts = write 200 (0x1B ∷ 0x7F ∷ []) ∷ [];
       expected = told (4 ∷ 15 ∷ []) (1 ∷ 0 ∷ 1 ∷ 0 ∷ []) [] ∷ [];
+    }
+    -- color: an escape of 64 characters goes out
+    ∷ record {
+      mode = Color;
+      page = 0 ∷ 1 ∷ 0 ∷ 0x377 ∷ [];
+      acts = write 200 (0x1B ∷ 0x5B ∷ replicate 61 0x31 ++ (0x6D ∷ [])) ∷ [];
+      expected = told (0 ∷ 64 ∷ []) (0 ∷ 2 ∷ 0 ∷ 0 ∷ []) (0x1B ∷ 0x5B ∷ replicate 61 0x31 ++ (0x6D ∷ [])) ∷ [];
+    }
+    -- color: one that holds 64 is full
+    ∷ record {
+      mode = Color;
+      page = 0 ∷ 1 ∷ 0 ∷ 0x377 ∷ [];
+      acts = write 200 (0x1B ∷ 0x5B ∷ replicate 62 0x31) ∷ write 200 (0x6D ∷ []) ∷ [];
+      expected =
+          told (0 ∷ 0 ∷ []) (0 ∷ 4 ∷ 0 ∷ 64 ∷ []) [] ∷
+          told (6 ∷ []) (1 ∷ 0 ∷ 0 ∷ 0 ∷ []) [] ∷
+          [];
+    }
+    -- a held count that the state can't have
+    ∷ record {
+      mode = Plain;
+      page = 0 ∷ 1 ∷ 0 ∷ 0x377 ∷ [];
+      acts = claim 1 ∷ write 200 (0x0A ∷ []) ∷ flush ∷ close ∷ abandon ∷ [];
+      expected =
+          told [] (0 ∷ 0 ∷ 1 ∷ 1 ∷ []) [] ∷
+          told (9 ∷ []) (0 ∷ 0 ∷ 1 ∷ 1 ∷ []) [] ∷
+          told (9 ∷ []) (0 ∷ 0 ∷ 1 ∷ 1 ∷ []) [] ∷
+          told (9 ∷ []) (0 ∷ 0 ∷ 1 ∷ 1 ∷ []) [] ∷
+          told [] (0 ∷ 0 ∷ 1 ∷ 0 ∷ []) [] ∷
+          [];
     }
     -- a flush refused by 13 changes nothing; a second close after 13 succeeds
     ∷ record {
       mode = Color;
       page = 0 ∷ 1 ∷ 0 ∷ 0x377 ∷ [];
-      acts = write 16 (0x1B ∷ []) ∷ flush ∷ close ∷ close ∷ [];
+      acts = write 200 (0x1B ∷ []) ∷ flush ∷ close ∷ close ∷ [];
       expected =
           told (0 ∷ 0 ∷ []) (0 ∷ 3 ∷ 0 ∷ 1 ∷ []) [] ∷
           told (13 ∷ []) (0 ∷ 3 ∷ 0 ∷ 1 ∷ []) [] ∷
           told (13 ∷ []) (1 ∷ 0 ∷ 1 ∷ 0 ∷ []) [] ∷
-          told (0 ∷ []) (0 ∷ 0 ∷ 1 ∷ 0 ∷ []) [] ∷
+          told [] (0 ∷ 0 ∷ 1 ∷ 0 ∷ []) [] ∷
           [];
     }
     ∷ []

@@ -6,10 +6,10 @@
 --     starts-isolated      a run that starts well starts well isolated
 --     ends-isolated        a run that ends well ends well isolated
 --     ends-on-newline      after characters that end well a writer is after a newline
---     lines-go             from after a newline, the steps of a write of writable characters that end well lead there again
+--     lines-go             from after a newline, the steps of one run of writable characters that end well lead there again
 --     write-runs           a write that 9, 2, 1 and 8 let through is its steps, finished
 --     Handed, hands-out    what stands in the first places is handed out if it starts well
---     closes-on-newline    after a newline a close succeeds
+--     Closes, closes-on-newline    after a newline a close succeeds
 --     passes-plain         such a queue passes
 use Prim.Native.Nat.{ℕ, _*_, _≤_}
 use mathlib.Core.Path.{_≡_, refl}
@@ -38,8 +38,8 @@ use Rattle.text_output.specs.declared.Ground.the-variants.{Newline}
 use Rattle.text_output.specs.declared.State.the-variants.{Ground as Grounded}
 use Rattle.text_output.specs.declared.Mode.the-variants.{Plain}
 use Rattle.text_output.specs.declared.TextOutput.{TextOutput}
-use Rattle.text_output.specs.Writer.{Given, fresh, sound}
-use Rattle.text_output.specs.Step.{goes, onGround}
+use Rattle.text_output.specs.Writer.{Given, fresh, sound, onGround}
+use Rattle.text_output.specs.Step.{goes}
 use Rattle.text_output.specs.Write.{runOf, runIn, handOut, finished, placesFor, writeRefusal, writeOf}
 use Rattle.text_output.specs.Close.{closeOf}
 use Rattle.text_output.specs.Passing.{Passes}
@@ -103,18 +103,23 @@ write-runs w p cs places s a c room = rw (s, a, c, le-ltb (length places) (place
 -- an answer that hands out k characters from a writer
 pub record Handed (w : TextOutput) (k : ℕ) (answer : Given) : Type 0 where
   pub number : answer .numbers ≡ 0 ∷ k ∷ []
+  pub stays : answer .abandon ≡ false
   pub state : answer .next .state ≡ w .state
   pub held : answer .next .held ≡ w .held
 
 pub hands-out : (p : List ℕ) (w : TextOutput) (xs rest : List ℕ) → startsWell p xs ≡ true →
     Handed w (length xs) (handOut p w (length xs) (xs ++ rest))
-hands-out p w [] rest h = simp and-false (record { number = refl; state = refl; held = refl })
-hands-out p w (x ∷ xs) rest h = simp (h, and-false) (record { number = refl; state = refl; held = refl })
+hands-out p w [] rest h = simp and-false (record { number = refl; stays = refl; state = refl; held = refl })
+hands-out p w (x ∷ xs) rest h = simp (h, and-false) (record { number = refl; stays = refl; state = refl; held = refl })
 
 -- ---- the close
-pub closes-on-newline : (w : TextOutput) → w .state ≡ Grounded Newline → w .held ≡ 0 → closeOf w .numbers ≡ 0 ∷ []
+pub record Closes (answer : Given) : Type 0 where
+  pub number : answer .numbers ≡ []
+  pub stays : answer .abandon ≡ false
+
+pub closes-on-newline : (w : TextOutput) → w .state ≡ Grounded Newline → w .held ≡ 0 → Closes (closeOf w)
 unfolding closeOf
-closes-on-newline w s n = rw (s, n) refl
+closes-on-newline w s n = record { number = rw (s, n) refl; stays = rw (s, n) refl }
 
 -- ---- both
 isolated-fits : (p cs : List ℕ) → length (isolateOf p cs) ≤ 3 * length cs
@@ -138,5 +143,7 @@ passes-plain p a q places c f s l room =
     record {
       number = rw (runs, go, zero-add, stored) (handed .number);
       characters = rw (runs, go, stored) (take-append-seam xs rest);
-      closes = rw (runs, go, zero-add, stored) (closes-on-newline _ (handed .state) (handed .held));
+      closes = rw (runs, go, zero-add, stored) (closes-on-newline _ (handed .state) (handed .held) .number);
+      write-stays = rw (runs, go, zero-add, stored) (handed .stays);
+      close-stays = rw (runs, go, zero-add, stored) (closes-on-newline _ (handed .state) (handed .held) .stays);
     }

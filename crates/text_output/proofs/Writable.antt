@@ -1,11 +1,11 @@
--- A run of characters that the check accepts, without ESC, goes through a writer outside an escape, in any mode. Idea: a step looks
+-- One run of characters that the check accepts, without ESC, goes through a writer outside an escape, in any mode. Idea: a step looks
 -- at the mode at ESC alone and refuses 1A, which the check refuses too; 34F, which isolation puts in, is accepted. Assumes nothing.
 --     writable               accepted by the check, and no ESC
---     writable-of            a clean list with none of the kept ones is writable
+--     writable-of            a clean list with none of the excepted ones is writable
 --     groundOf, groundAfter  what stands last after a character, after some characters
 --     run-goes               steps over writable characters hand out exactly these and lead to the ground after them
 --     all-isolated           what holds of 34F and of each character of a run holds of each of the run isolated
---     isolated-goes          the steps of a write of writable characters hand out exactly the run isolated
+--     isolated-goes          the steps of one run (in CRLF mode of one part) of writable characters hand out exactly the run isolated
 use Prim.Native.Nat.{ℕ}
 use mathlib.Core.Path.{_≡_, refl}
 use mathlib.Core.Bool.{Bool, true, false, cond, not, _&&_, _||_}
@@ -25,7 +25,8 @@ use Rattle.text_output.specs.declared.Ground.{Ground}
 use Rattle.text_output.specs.declared.Ground.the-variants.{Newline, ZwjOrPrepend, Other}
 use Rattle.text_output.specs.declared.State.the-variants.{Ground as Grounded}
 use Rattle.text_output.specs.declared.TextOutput.{TextOutput}
-use Rattle.text_output.specs.Step.{goes, onGround, groundStep, stepOf, stepsOf}
+use Rattle.text_output.specs.Writer.{onGround}
+use Rattle.text_output.specs.Step.{goes, groundStep, stepOf, stepsOf}
 use Rattle.text_output.specs.Write.{checked, firstError, runOf}
 
 -- ---- writable characters
@@ -33,7 +34,7 @@ use Rattle.text_output.specs.Write.{checked, firstError, runOf}
 abbrev pub writable : ℕ → Bool
 writable c = eqb (reasonOf c) 0 && not (eqb c 0x1B)
 
--- r: accepted; k: one of the kept ones; e: no ESC
+-- r: accepted; k: one of the excepted ones, `kept` of check_char; e: no ESC
 accepted-of : (r k e : Bool) → (r || k) && e ≡ true → not k ≡ true → r && e ≡ true
 accepted-of true k e h g = h
 accepted-of false true e h g = never g

@@ -1,5 +1,5 @@
 -- What a reader must believe of this crate: the record and what its calls answer; one character in one state; the two writes; flush,
--- close and abandon.
+-- close and abandon; what it is for a queue to pass.
 pub mod Writer
 pub mod Step
 pub mod Write

@@ -13,30 +13,26 @@ use Rattle.text_output.specs.declared.State.the-variants.{Ground, Esc, C
 use Rattle.text_output.specs.declared.Mode.{Mode}
 use Rattle.text_output.specs.declared.Mode.the-variants.{Plain, Crlf, Color}
 use Rattle.text_output.specs.declared.TextOutput.{TextOutput}
-use Rattle.text_output.specs.Writer.{grounded}
+use Rattle.text_output.specs.Writer.{onGround}
 
 -- what some steps come to
-pub data Run : Type 0 where
+pub data Stepped : Type 0 where
   -- they all go on: the characters that they add to those to hand out, and the writer after them
-  goes : List ℕ → TextOutput → Run
+  goes : List ℕ → TextOutput → Stepped
   -- one is refused: the characters added before it, the writer before it, and the refusal's number with its values
-  stops : List ℕ → TextOutput → List ℕ → Run
+  stops : List ℕ → TextOutput → List ℕ → Stepped
 
 -- more steps behind those that added xs
-abbrev pub behind : List ℕ → Run → Run
+abbrev pub behind : List ℕ → Stepped → Stepped
 behind xs (goes ys w) = goes (xs ++ ys) w
 behind xs (stops ys w n) = stops (xs ++ ys) w n
 
 -- steps, and then others from the writer after them; none where one was refused
-abbrev pub andThen : Run → (TextOutput → Run) → Run
+abbrev pub andThen : Stepped → (TextOutput → Stepped) → Stepped
 andThen (goes xs w) more = behind xs (more w)
 andThen (stops xs w n) more = stops xs w n
 
 -- ---- one character
--- the writer in a state outside an escape, where nothing is held
-abbrev pub onGround : TextOutput → State → TextOutput
-onGround w state = grounded w (w .«expect_starter») state (w .kept)
-
 -- the writer in an escape, with c held behind those that it holds
 abbrev pub holding : TextOutput → State → ℕ → TextOutput
 holding w state c =
@@ -50,7 +46,7 @@ holding w state c =
     }
 
 -- refused by 4: the reason's number and its values
-abbrev pub unwritable : TextOutput → List ℕ → Run
+abbrev pub unwritable : TextOutput → List ℕ → Stepped
 unwritable w reason = stops [] w (4 ∷ reason)
 
 abbrev pub isColor : Mode → Bool
@@ -59,7 +55,7 @@ isColor Crlf = false
 isColor Color = true
 
 -- outside an escape. 1A stands for a refused character; `error` has the number and values of its reason.
-unfoldable pub groundStep : TextOutput → List ℕ → ℕ → Run
+unfoldable pub groundStep : TextOutput → List ℕ → ℕ → Stepped
 groundStep w error c =
     cond (eqb c 0x1B) (cond (isColor (w .mode)) (goes [] (holding w Esc c)) (unwritable w (errorNumbers Escape)))
     (cond (eqb c 0x0A) (goes (c ∷ []) (onGround w (Ground Newline)))
@@ -67,31 +63,31 @@ groundStep w error c =
     (goes (c ∷ []) (onGround w (Ground (cond (basicTextEnd c) Other ZwjOrPrepend))))))
 
 -- after ESC. "In an escape, a refused character gives reason 15."
-unfoldable pub escStep : TextOutput → ℕ → Run
+unfoldable pub escStep : TextOutput → ℕ → Stepped
 escStep w c = cond (eqb c 0x5B) (goes [] (holding w Csi c)) (unwritable w (errorNumbers UnrecognizedEscape))
 
 -- 20..3F or `m`, in a sequence begun by ESC `[`: `m` ends it, and all of it goes out. "6 an escape holding 64 characters gets
 -- 20..3F or `m`."
-abbrev pub csiChar : TextOutput → ℕ → Run
+abbrev pub csiChar : TextOutput → ℕ → Stepped
 csiChar w c =
     cond (ltb (w .held) 64)
     (cond (eqb c 0x6D) (goes (take (w .held) (w .«escape_sequence») ++ c ∷ []) (onGround w (Ground Other))) (goes [] (holding w Csi c)))
     (stops [] w (6 ∷ []))
 
 -- in a sequence begun by ESC `[`
-unfoldable pub csiStep : TextOutput → ℕ → Run
+unfoldable pub csiStep : TextOutput → ℕ → Stepped
 csiStep w c =
     cond (leb 0x20 c && leb c 0x3F) (csiChar w c) (cond (eqb c 0x6D) (csiChar w c) (unwritable w (errorNumbers UnrecognizedEscape)))
 
-abbrev pub stepIn : State → TextOutput → List ℕ → ℕ → Run
+abbrev pub stepIn : State → TextOutput → List ℕ → ℕ → Stepped
 stepIn (Ground g) w error c = groundStep w error c
 stepIn Esc w error c = escStep w c
 stepIn Csi w error c = csiStep w c
 
-abbrev pub stepOf : TextOutput → List ℕ → ℕ → Run
+abbrev pub stepOf : TextOutput → List ℕ → ℕ → Stepped
 stepOf w error c = stepIn (w .state) w error c
 
 -- ---- a run of characters
-unfoldable pub stepsOf : TextOutput → List ℕ → List ℕ → Run
+unfoldable pub stepsOf : TextOutput → List ℕ → List ℕ → Stepped
 stepsOf w error [] = goes [] w
 stepsOf w error (c ∷ cs) = andThen (stepOf w error c) (λ next. stepsOf next error cs)

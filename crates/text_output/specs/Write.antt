@@ -1,7 +1,7 @@
 -- A write of characters and a write of bytes: what they answer, the record after and the lent places after, refused or not. Document
 -- 01, "Characters go out", "Refused .."; `write_str` and `write` of text_output.rs. Characters are hexadecimal. Assumes nothing.
 use Prim.Native.Nat.{ℕ, _+_, _*_}
-use mathlib.Core.Bool.{Bool, true, false, cond, not, _&&_}
+use mathlib.Core.Bool.{Bool, false, cond, not, _&&_}
 use mathlib.Core.List.{List, [], _∷_, map}
 use lib.Dec.{eqb, ltb}
 use lib.ListN.{length, getD}
@@ -17,8 +17,8 @@ use Rattle.text_output.specs.declared.State.the-variants.{Ground}
 use Rattle.text_output.specs.declared.Mode.{Mode}
 use Rattle.text_output.specs.declared.Mode.the-variants.{Plain, Crlf, Color}
 use Rattle.text_output.specs.declared.TextOutput.{TextOutput}
-use Rattle.text_output.specs.Writer.{Given, Outcome, BytesOutcome, sound, refusedBy, abandonedBy}
-use Rattle.text_output.specs.Step.{Run, goes, stops, andThen, onGround, stepsOf}
+use Rattle.text_output.specs.Writer.{Given, Outcome, BytesOutcome, sound, onGround, keeping, refusedBy, abandonedBy}
+use Rattle.text_output.specs.Step.{Stepped, goes, stops, andThen, stepsOf}
 
 -- ---- the steps of a write
 -- "Each character is checked, refused ones becoming 1A"
@@ -31,7 +31,7 @@ firstError [] = []
 firstError (c ∷ cs) = cond (eqb (reasonOf c) 0) (firstError cs) (checkNumbers c)
 
 -- ", then isolated, then stepped through `state_machine_char`": `state_machine`
-unfoldable pub runOf : List ℕ → TextOutput → List ℕ → Run
+unfoldable pub runOf : List ℕ → TextOutput → List ℕ → Stepped
 runOf p w chars = stepsOf w (firstError chars) (isolateOf p (map checked chars))
 
 -- a list with c put before its first part
@@ -45,54 +45,42 @@ parts [] = [] ∷ []
 parts (c ∷ cs) = cond (eqb c 0x0A) ([] ∷ parts cs) (intoFirst c (parts cs))
 
 -- "0A gives 0D 0A", from any state
-abbrev pub lineEnd : TextOutput → Run
+abbrev pub lineEnd : TextOutput → Stepped
 lineEnd w = goes (0x0D ∷ 0x0A ∷ []) (onGround w (Ground Newline))
 
 -- the parts that follow one, with 0D 0A before each
-unfoldable pub moreParts : List ℕ → TextOutput → List (List ℕ) → Run
+unfoldable pub moreParts : List ℕ → TextOutput → List (List ℕ) → Stepped
 moreParts p w [] = goes [] w
 moreParts p w (part ∷ rest) =
     andThen (lineEnd w) (λ next. andThen (runOf p next part) (λ after. moreParts p after rest))
 
-abbrev pub partsOf : List ℕ → TextOutput → List (List ℕ) → Run
+abbrev pub partsOf : List ℕ → TextOutput → List (List ℕ) → Stepped
 partsOf p w [] = goes [] w
 partsOf p w (part ∷ rest) = andThen (runOf p w part) (λ after. moreParts p after rest)
 
 -- "In CRLF mode each part between 0A is isolated alone": `normal_write_str`, `crlf_write_str`
-abbrev pub runIn : Mode → List ℕ → TextOutput → List ℕ → Run
+abbrev pub runIn : Mode → List ℕ → TextOutput → List ℕ → Stepped
 runIn Plain p w chars = runOf p w chars
 runIn Crlf p w chars = partsOf p w (parts chars)
 runIn Color p w chars = runOf p w chars
 
 -- ---- the handing out: `write_buffer`
--- the writer with so many kept
-abbrev pub keeping : TextOutput → Bool → ℕ → TextOutput
-keeping w expect kept =
-    record {
-      mode = w .mode;
-      «expect_starter» = expect;
-      state = w .state;
-      kept = kept;
-      held = w .held;
-      «escape_sequence» = w .«escape_sequence»;
-    }
-
 -- "5 the buffer to hand out, not empty, begins with no start while one is expected." It spends the expectation, and all stays kept.
 -- "Success hands out the first k characters and sets kept to 0." "an empty write spends the expectation of a start"
 abbrev pub handOut : List ℕ → TextOutput → ℕ → List ℕ → Given
 handOut p w k places =
     cond (w .«expect_starter» && (ltb 0 k && not (basicTextStart p (getD places 0 0))))
-    (abandonedBy (5 ∷ []) (keeping w false k) false)
+    (abandonedBy (5 ∷ []) (keeping w false k))
     (record { numbers = 0 ∷ k ∷ []; abandon = false; next = keeping w false 0 })
 
 -- how a write ends: what its steps added stands in the places behind the kept ones. "After 4 or 6 the characters before the refused
 -- one .. stay kept"; "4, 6 .. leave the expectation as it was"
-abbrev pub finished : List ℕ → Run → List ℕ → Outcome
+abbrev pub finished : List ℕ → Stepped → List ℕ → Outcome
 finished p (goes xs w) places =
     record { given = handOut p w (w .kept + length xs) (sets places (w .kept) xs); places = sets places (w .kept) xs }
 finished p (stops xs w n) places =
     record {
-      given = abandonedBy n (keeping w (w .«expect_starter») (w .kept + length xs)) (w .«expect_starter»);
+      given = abandonedBy n (keeping w (w .«expect_starter») (w .kept + length xs));
       places = sets places (w .kept) xs;
     }
 
@@ -118,7 +106,7 @@ writeOf w p chars places =
 abbrev pub beginsNone : List ℕ → Bool
 beginsNone bytes = ltb 0 (length bytes) && eqb (length (charsOf bytes)) 0
 
--- how many bytes were taken: those of the longest valid prefix, where its characters are handed out
+-- how many bytes were taken: those of the longest valid prefix, where the write is accepted
 abbrev pub usedBy : List ℕ → List ℕ → ℕ
 usedBy [] bytes = 0
 usedBy (n ∷ ns) bytes = cond (eqb n 0) (length (encodes (charsOf bytes))) 0
@@ -130,5 +118,5 @@ taking bytes o = record { used = usedBy (o .given .numbers) bytes; outcome = o }
 unfoldable pub writeBytesOf : TextOutput → List ℕ → List ℕ → List ℕ → BytesOutcome
 writeBytesOf w p bytes places =
     cond (sound w && (accepted p && beginsNone bytes))
-    (taking bytes (record { given = abandonedBy (3 ∷ []) w (w .«expect_starter»); places = places }))
+    (taking bytes (record { given = abandonedBy (3 ∷ []) w; places = places }))
     (taking bytes (writeOf w p (charsOf bytes) places))

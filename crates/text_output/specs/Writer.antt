@@ -1,12 +1,12 @@
 -- The writer's record, what its calls answer, and the after-newline state. Document 01, "Characters go out" and "Refused ..". Assumes
 -- nothing.
-use Prim.Native.Nat.{ℕ, _+_, _*_}
+use Prim.Native.Nat.{ℕ}
 use mathlib.Core.Bool.{Bool, true, false, _&&_}
 use mathlib.Core.List.{List, [], _∷_}
 use lib.Dec.{eqb, leb}
 use lib.ListN.{replicate}
 use Rattle.check_char.specs.Check.{errorNumbers}
-use Rattle.text_output.specs.declared.Ground.the-variants.{Newline, ZwjOrPrepend, Other}
+use Rattle.text_output.specs.declared.Ground.the-variants.{Newline}
 use Rattle.text_output.specs.declared.State.{State}
 use Rattle.text_output.specs.declared.State.the-variants.{Ground, Esc, Csi}
 use Rattle.text_output.specs.declared.Mode.{Mode}
@@ -15,9 +15,9 @@ use Rattle.text_output.specs.declared.Wrote.{Wrote}
 use Rattle.text_output.specs.declared.Wrote.the-variants.{HandedOut, Refused, Abandon, Unwritable}
 use Rattle.text_output.specs.declared.Written.{Written}
 use Rattle.text_output.specs.declared.WrittenBytes.{WrittenBytes}
-use Rattle.text_output.specs.declared.Ended.{Ended}
-use Rattle.text_output.specs.declared.Ended.the-variants.{Done, Refused as Denied, Abandon as Abandoned}
-use Rattle.text_output.specs.declared.Closed.{Closed}
+use Rattle.text_output.specs.declared.Answer.{Answer}
+use Rattle.text_output.specs.declared.Answer.the-variants.{Done, Refused as Denied, Abandon as Abandoned}
+use Rattle.text_output.specs.declared.Answered.{Answered}
 
 -- ---- the record
 -- as first made, in a mode
@@ -35,21 +35,33 @@ heldIn Csi n = leb 2 n
 abbrev pub sound : TextOutput → Bool
 sound w = leb (w .held) 64 && heldIn (w .state) (w .held)
 
--- outside an escape, where nothing is held: with the expectation, the state and the kept count given
-abbrev pub grounded : TextOutput → Bool → State → ℕ → TextOutput
-grounded w expect state kept =
+-- in a state outside an escape, where nothing is held
+abbrev pub onGround : TextOutput → State → TextOutput
+onGround w state =
     record {
       mode = w .mode;
-      «expect_starter» = expect;
+      «expect_starter» = w .«expect_starter»;
       state = state;
-      kept = kept;
+      kept = w .kept;
       held = 0;
       «escape_sequence» = w .«escape_sequence»;
     }
 
--- "the writer's after-newline state", with the expectation given: `reset_state`; the kept characters stay
-abbrev pub afterNewline : TextOutput → Bool → TextOutput
-afterNewline w expect = grounded w expect (Ground Newline) (w .kept)
+-- "its after-newline state": `reset_state`; expectation and kept characters stay
+abbrev pub afterNewline : TextOutput → TextOutput
+afterNewline w = onGround w (Ground Newline)
+
+-- with the expectation and the kept count given
+abbrev pub keeping : TextOutput → Bool → ℕ → TextOutput
+keeping w expect kept =
+    record {
+      mode = w .mode;
+      «expect_starter» = expect;
+      state = w .state;
+      kept = kept;
+      held = w .held;
+      «escape_sequence» = w .«escape_sequence»;
+    }
 
 -- ---- what a call answers, by this paper's numbers
 -- 0 and how many characters are handed out; or the refusal's number, for 4 the reason's number and its values too
@@ -66,16 +78,16 @@ wroteTells (Refused n) = false
 wroteTells (Abandon n) = true
 wroteTells (Unwritable e) = true
 
--- 0, or the refusal's number
-abbrev pub endedNumbers : Ended → List ℕ
-endedNumbers Done = 0 ∷ []
-endedNumbers (Denied n) = n ∷ []
-endedNumbers (Abandoned n) = n ∷ []
+-- no number where it succeeds, or the refusal's
+abbrev pub answerNumbers : Answer → List ℕ
+answerNumbers Done = []
+answerNumbers (Denied n) = n ∷ []
+answerNumbers (Abandoned n) = n ∷ []
 
-abbrev pub endedTells : Ended → Bool
-endedTells Done = false
-endedTells (Denied n) = false
-endedTells (Abandoned n) = true
+abbrev pub answerTells : Answer → Bool
+answerTells Done = false
+answerTells (Denied n) = false
+answerTells (Abandoned n) = true
 
 -- an answer's numbers, whether it tells the caller to abandon, and the record after the call
 pub record Given : Type 0 where
@@ -102,15 +114,14 @@ abbrev pub bytesOutcome : WrittenBytes → List ℕ → BytesOutcome
 bytesOutcome r places =
     record { used = r .used; outcome = writtenOutcome (record { answer = r .answer; next = r .next }) places }
 
-abbrev pub closedGiven : Closed → Given
-closedGiven r = record { numbers = endedNumbers (r .answer); abandon = endedTells (r .answer); next = r .next }
+abbrev pub answeredGiven : Answered → Given
+answeredGiven r = record { numbers = answerNumbers (r .answer); abandon = answerTells (r .answer); next = r .next }
 
 -- ---- refusals
 -- "1, 2, 7, 8, 9, 10 and a flush refused by 13 change nothing."
 abbrev pub refusedBy : ℕ → TextOutput → Given
 refusedBy n w = record { numbers = n ∷ []; abandon = false; next = w }
 
--- "The others return the writer to its after-newline state and tell the caller to abandon.": the number with its values, and the
--- expectation after it
-abbrev pub abandonedBy : List ℕ → TextOutput → Bool → Given
-abandonedBy numbers w expect = record { numbers = numbers; abandon = true; next = afterNewline w expect }
+-- "The others return the writer to its after-newline state and tell the caller to abandon.": the number with its values
+abbrev pub abandonedBy : List ℕ → TextOutput → Given
+abandonedBy numbers w = record { numbers = numbers; abandon = true; next = afterNewline w }

@@ -28,7 +28,7 @@ pub enum State {
     Csi,
 }
 
-// Which constructor made the writer: `crlf_compatibility` and `ansi_color` of the Rust, of which no constructor sets both.
+// What a newline and ESC come to: `crlf_compatibility` and `ansi_color` of the Rust, of which no constructor sets both.
 pub enum Mode {
     Plain,
     // A newline goes out as 0D 0A.
@@ -40,7 +40,7 @@ pub enum Mode {
 // The writer's record.
 pub struct TextOutput {
     pub mode: Mode,
-    // A start is expected: in a fresh record, after a flush and after a close.
+    // A start is expected: in a fresh record, after a flush that succeeds and after a close.
     pub expect_starter: bool,
     pub state: State,
     // How many of the first lent places hold characters that wait to be handed out: `buffer` of the Rust.
@@ -83,7 +83,7 @@ pub struct WrittenBytes {
 }
 
 // What a flush or a close answers.
-pub enum Ended {
+pub enum Answer {
     Done,
     // Refused by this number; nothing changed.
     Refused(u32),
@@ -92,8 +92,8 @@ pub enum Ended {
 }
 
 // Its answer, and the record after it.
-pub struct Closed {
-    pub answer: Ended,
+pub struct Answered {
+    pub answer: Answer,
     pub next: TextOutput,
 }
 

@@ -1,7 +1,6 @@
 -- `replay::take_block` is safe and ends. The buffers keep their lengths, and the measure is how many bytes of the block are left.
 use Prim.Native.Nat.{_-_}
 use mathlib.Core.Path.{_≡_}
-use mathlib.Core.Logic.{⊎-elim}
 use lib.ListN.{length}
 use borrow.Author.Needs.{needs}
 use Rattle.replay.proofs.take_block.Statement.{statement}
@@ -15,9 +14,6 @@ abbrev μ-loop : tie.MeasureT-loop
 μ-loop block line₀ numbers₀ page₀ places₀ out₀ state₀ i₀ line numbers page places out state i =
     length block - i
 
-loop-again : tie.Need-loop-again Inv-loop μ-loop
-loop-again c = ⊎-elim (λ w. ((cc), (cc), (cc), (cc), (cc))) (λ w. ((cc), (cc), (cc), (cc), (cc))) (c .if1 .came)
-
 pub take-block-spec : {M : Type 1} → statement M
 take-block-spec =
     tie.close
@@ -27,10 +23,9 @@ take-block-spec =
     (λ c. search needs)
     (λ c. search needs)
     (λ c κs. search needs)
-    (λ c κs. search needs)
     (λ c. search needs)
     (λ c. search needs)
-    loop-again
+    (λ c. search needs)
     (λ c. search needs)
     (λ c. search needs)
     (λ c. search needs)
