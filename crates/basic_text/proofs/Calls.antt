@@ -19,7 +19,7 @@ use Rattle.text_input.specs.declared.Options.{Options}
 use Rattle.text_input.specs.declared.TextInput.{TextInput}
 use Rattle.text_input.specs.declared.Scanned.{Scanned}
 use Rattle.text_input.specs.Scan.{Outcome, outs, ends, refusalOf, scanRefusal, skipped, opened, outcome, scanOf, finishChars, finishNext, finishOf}
-use Rattle.text_input.proofs.Lists.{sets-filled}
+use Rattle.unicode.proofs.Lists.{sets-filled}
 use Rattle.text_input.proofs.Room.{finish-room}
 use Rattle.text_input.proofs.Calls as calls
 use Rattle.basic_text.specs.Exports.{numbers, bytesOf, withNumbers}

@@ -19,7 +19,7 @@ use Rattle.text_input.specs.declared.TextInput.{TextInput}
 use Rattle.text_input.specs.declared.step.Step.{Step}
 use Rattle.text_input.specs.Step.{stepOf, outChars}
 use Rattle.text_input.specs.Scan.{outs, ends}
-use Rattle.text_input.proofs.Lists.{sets-filled}
+use Rattle.unicode.proofs.Lists.{sets-filled}
 use Rattle.basic_text.specs.Exports.{bytesOf}
 use Rattle.basic_text.proofs.Laws.{length-bytes}
 use Rattle.basic_text.proofs.Stores.{sets-bytes}

@@ -11,7 +11,7 @@ use native.Mathlib.Numerals.{add-one}
 use lib.ListN.{length, getD, take, drop, length-append}
 use lib.Seq.{sets, take-suc, take-at, length-take-le}
 use Rattle.unicode.specs.Chars.{filled}
-use Rattle.text_input.proofs.Lists.{sets-append}
+use Rattle.unicode.proofs.Lists.{sets-append}
 use Rattle.basic_text.specs.Exports.{bytesOf}
 use Rattle.basic_text.proofs.Laws.{bytes-append, length-bytes}
 

@@ -20,7 +20,7 @@ use Rattle.unicode.proofs.Kit.{by-lt, both-true}
 use Rattle.unicode.proofs.Rows.{length-encode}
 use Rattle.text_input.specs.declared.bytes.Filled.the-variants.{Counts}
 use Rattle.text_input.specs.Fill.{taken, continuation, zeroed, fillOutcome, filledBytes, fillOf}
-use Rattle.text_input.proofs.Lists.{sets-append, sets-filled}
+use Rattle.unicode.proofs.Lists.{sets-append, sets-filled}
 
 pub fits : (free : ℕ) (cs : List ℕ) → length (encodes (taken free cs)) ≤ free
 fits free [] = omega arith

@@ -14,7 +14,6 @@ pub mod Clean
 pub mod Pins
 pub mod Cases
 pub mod Kit
-pub mod Lists
 pub mod Loop
 pub mod Calls
 pub mod Filling

@@ -19,7 +19,7 @@ use Rattle.text_input.specs.declared.TextInput.{TextInput}
 use Rattle.text_input.specs.declared.step.Step.{Step}
 use Rattle.text_input.specs.Step.{stepOf, outChars}
 use Rattle.text_input.specs.Scan.{outs, ends}
-use Rattle.text_input.proofs.Lists.{sets-append, sets-filled}
+use Rattle.unicode.proofs.Lists.{sets-append, sets-filled}
 
 module _ (p : List ℕ) (o : Options) (chunk queue₀ : List ℕ) (r₀ : TextInput) where
   pub record Going (queue : List ℕ) (r : TextInput) (k i : ℕ) : Type 0 where

@@ -19,10 +19,11 @@ use native.Mathlib.Nat.{zero-add}
 use native.Mathlib.Omega.{arith}
 use lib.Dec.{eqb}
 use lib.ListN.{length, drop}
-use lib.Seq.{sets, sets-eq, take-append-seam}
+use lib.Seq.{take-append-seam}
 use borrow.Author.Tests.{eqb-true, le-ltb}
 use Rattle.unicode.specs.Chars.{areChars}
 use Rattle.unicode.proofs.Kit.{split}
+use Rattle.unicode.proofs.Lists.{sets-filled}
 use Rattle.page.specs.Page.{accepted}
 use Rattle.page.proofs.PageLaws.{facts-of-accepted}
 use Rattle.text_utils.specs.Classes.{basicTextStart}
@@ -126,9 +127,6 @@ isolated-fits : (p cs : List ℕ) → length (isolateOf p cs) ≤ 3 * length cs
 isolated-fits p [] = omega (arith, length-isolate p [])
 isolated-fits p (c ∷ cs) = omega (arith, length-isolate p (c ∷ cs))
 
-stored-first : (xs places : List ℕ) → length xs ≤ length places → sets places 0 xs ≡ xs ++ drop (length xs) places
-stored-first xs places h = rw zero-add at (sets-eq xs places 0 (omega arith))
-
 pub passes-plain : (p : List ℕ) → accepted p ≡ true → (q places : List ℕ) →
     areChars q ≡ true → all writable q ≡ true → startsWell p q ≡ true → endsWell true q ≡ true →
     placesFor (fresh Plain) (length q) ≤ length places →
@@ -138,7 +136,7 @@ passes-plain p a q places c f s l room =
     let rest = drop (length xs) places in
     let runs = write-runs (fresh Plain) p q places refl a c room in
     let go = lines-go p a q (fresh Plain) refl refl f l in
-    let stored = stored-first xs places (omega (arith, isolated-fits p q)) in
+    let stored = sets-filled xs places (omega (arith, isolated-fits p q)) in
     let handed = hands-out p (fresh Plain) xs rest (starts-isolated p a q s) in
     record {
       number = rw (runs, go, zero-add, stored) (handed .number);

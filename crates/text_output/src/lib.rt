@@ -2,11 +2,18 @@
 // since the last success in the first places, and behind them those of the write.
 // The stream that the Rust writer holds is the caller's: a success says how many characters are handed out, and a refusal whether
 // the caller is to abandon the stream.
+//     step.rt    one character in one state: `state_machine_char` without its stores
+//     store.rt   the stores of a step
+mod step;
+mod store;
+
 use check_char::BasicTextError;
 use unicode::BOM;
 ghost use mathlib.Core.Path.{_≡_};
 ghost use Rattle.text_output.specs.declared.Mode.the-variants.{Plain, Crlf, Color};
-ghost use Rattle.text_output.specs.Writer.{fresh};
+ghost use Rattle.text_output.specs.declared.State.the-variants.{Ground as Grounded};
+ghost use Rattle.text_output.specs.Writer.{fresh, heldIn, sound, answeredGiven};
+ghost use Rattle.text_output.specs.Close.{expecting, flushIn, flushOf, abandonOf};
 
 // What stands last outside an escape.
 pub enum Ground {
@@ -146,5 +153,101 @@ impl TextOutput {
         ensures { λ r. ⌜ r ≡ fresh Color ⌝ }
     {
         TextOutput::in_mode(Mode::Color)
+    }
+
+    // Whether the record claims a held count that its state can have, and no more than 64: what 9 lets pass.
+    fn is_sound(self) -> bool
+        ensures { λ r. ⌜ r ≡ sound self ⌝ }
+    {
+        let state = self.state;
+        (self.held <= TextOutput::ESCAPE_SEQUENCE_SIZE) & held_in(state, self.held)
+    }
+
+    // The record that expects a start.
+    fn expecting(self) -> Self
+        ensures { λ r. ⌜ r ≡ expecting self ⌝ }
+    {
+        let mut w = self;
+        w.expect_starter = true;
+        w
+    }
+
+    // The flush of a sound record, by its state.
+    fn flush_in(self, state: State) -> Answered
+        ensures { λ r. ⌜ answeredGiven r ≡ flushIn state self ⌝ }
+    {
+        match state {
+            State::Ground(ground) => self.flush_ground(ground),
+            State::Esc => Answered {
+                answer: Answer::Refused(13),
+                next: self,
+            },
+            State::Csi => Answered {
+                answer: Answer::Refused(13),
+                next: self,
+            },
+        }
+    }
+
+    fn flush_ground(self, ground: Ground) -> Answered
+        ensures { λ r. ⌜ answeredGiven r ≡ flushIn (Grounded ground) self ⌝ }
+    {
+        match ground {
+            Ground::Newline => Answered {
+                answer: Answer::Done,
+                next: self.expecting(),
+            },
+            Ground::ZwjOrPrepend => Answered {
+                answer: Answer::Abandon(11),
+                next: self.abandon(),
+            },
+            Ground::Other => Answered {
+                answer: Answer::Done,
+                next: self.expecting(),
+            },
+        }
+    }
+
+    // The stream is flushed: a start is expected again. Total: refuses 9, and then by the state 11 after a non-end, which puts the
+    // writer after a newline, or 13 in an escape, which changes nothing.
+    pub fn flush(self) -> Answered
+        ensures { λ r. ⌜ answeredGiven r ≡ flushOf self ⌝ }
+    {
+        if self.is_sound() {
+            let state = self.state;
+            self.flush_in(state)
+        } else {
+            Answered {
+                answer: Answer::Refused(9),
+                next: self,
+            }
+        }
+    }
+
+    // The stream is abandoned: the writer is after a newline and holds no escape. Total: refuses nothing, on any record.
+    pub fn abandon(self) -> Self
+        ensures { λ r. ⌜ r ≡ abandonOf self ⌝ }
+    {
+        let mode = self.mode;
+        let escape_sequence = self.escape_sequence;
+        Self {
+            mode,
+            expect_starter: self.expect_starter,
+            state: State::Ground(Ground::Newline),
+            kept: self.kept,
+            held: 0,
+            escape_sequence,
+        }
+    }
+}
+
+// Whether a state can have so many held: 1 after ESC, 2 or more after ESC `[`, else none.
+fn held_in(state: State, n: usize) -> bool
+    ensures { λ r. ⌜ r ≡ heldIn state n ⌝ }
+{
+    match state {
+        State::Ground(_) => n == 0,
+        State::Esc => n == 1,
+        State::Csi => 2 <= n,
     }
 }

@@ -11,7 +11,7 @@ use lib.Seq.{sets, drop-cons}
 use Rattle.unicode.specs.Chars.{filled}
 use Rattle.basic_text.specs.Exports.{numbers}
 use Rattle.basic_text.proofs.Laws.{length-numbers}
-use Rattle.text_input.proofs.Lists.{sets-filled}
+use Rattle.unicode.proofs.Lists.{sets-filled}
 use Rattle.basic_text.proofs.numbers.read_numbers.Statement.{statement}
 use Rattle.basic_text.proofs.numbers.read_numbers.Tie as tie
 

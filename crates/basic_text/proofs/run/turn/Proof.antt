@@ -7,7 +7,7 @@ use borrow.Author.Needs.{needs}
 use lib.ListN.{length, take}
 use lib.Seq.{sets}
 use Rattle.text_input.specs.Step.{stepOf, outChars}
-use Rattle.text_input.proofs.Lists.{sets-filled}
+use Rattle.unicode.proofs.Lists.{sets-filled}
 use Rattle.text_input.proofs.Room.{step-room}
 use Rattle.basic_text.specs.Exports.{bytesOf}
 use Rattle.basic_text.proofs.Stores.{stored-first}

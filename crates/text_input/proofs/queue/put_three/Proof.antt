@@ -4,7 +4,7 @@ use native.Mathlib.Omega.{arith}
 use lib.ListN.{length-append}
 use borrow.Author.Needs.{needs}
 use Rattle.text_input.specs.Step.{leadChars}
-use Rattle.text_input.proofs.Lists.{sets-three}
+use Rattle.unicode.proofs.Lists.{sets-three}
 use Rattle.text_input.proofs.queue.put_three.Statement.{statement}
 use Rattle.text_input.proofs.queue.put_three.Tie as tie
 
