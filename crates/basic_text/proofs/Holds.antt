@@ -7,10 +7,10 @@
 --     whole-chars       and characters
 --     chars-append      characters joined to characters
 use Prim.Native.Nat.{ℕ}
-use mathlib.Core.Bool.{Bool, true, false, cond}
+use mathlib.Core.Bool.{Bool, true, false, cond, not}
 use mathlib.Core.List.{List, [], _∷_, _++_, append-nil, flatten}
 use mathlib.Core.Path.{_≡_, refl}
-use lib.Dec.{T, eqb}
+use lib.Dec.{eqb}
 use borrow.Author.Tests.{eqb-true}
 use Rattle.unicode.specs.Chars.{isChar, areChars}
 use Rattle.unicode.proofs.Kit.{never, split, both-true, both}
@@ -18,11 +18,13 @@ use Rattle.page.specs.Page.{accepted}
 use Rattle.text_utils.specs.Classes.{basicTextStart}
 use Rattle.text_utils.proofs.Classes.{start-newline, start-joiner, end-newline}
 use Rattle.check_char.specs.Check.{clean, all}
+use Rattle.check_char.proofs.Clean.{holds}
 use Rattle.text_input.specs.declared.Options.{Options}
 use Rattle.text_input.specs.declared.TextInput.{TextInput}
 use Rattle.text_input.specs.Scan.{scanChars, scanNext, finishChars}
-use Rattle.text_input.specs.Streams.{scansChars, scansNext}
+use Rattle.text_input.specs.Streams.{scansChars, scansNext, owedAfter}
 use Rattle.text_input.specs.Pieces.{Kind, lineEnd, pageRun, escape, other, Piece, join, pieceImage, image, startMark, endMark, isLine, lastNewline, cleaned}
+use Rattle.text_input.proofs.Streams.{lastNewline-is}
 use Rattle.text_input.proofs.Clean.{scan-clean, scan-chars, finish-clean, finish-chars}
 use Rattle.text_output.proofs.Passing.{startsWell, endsWell}
 
@@ -36,29 +38,20 @@ ends-after : (w : List ℕ) (b : Bool) → endsWell false w ≡ true → endsWel
 ends-after [] b h = never h
 ends-after (x ∷ w) b h = h
 
--- the last piece of a list is a line end; b where there is none
-unfoldable lineLast : Bool → List Piece → Bool
-lineLast b [] = b
-lineLast b (x ∷ xs) = lineLast (isLine (x .kind)) xs
-
-lastNewline-is : (xs : List Piece) → lastNewline xs ≡ cond (lineLast true xs) [] (0x0A ∷ [])
-unfolding lastNewline lineLast
-lastNewline-is [] = refl
-lastNewline-is (x ∷ []) = refl
-lastNewline-is (x ∷ y ∷ xs) = lastNewline-is (y ∷ xs)
-
-piece-ends : (k : Kind) (v rest w : List ℕ) (b : Bool) → endsWell (isLine k) w ≡ true → endsWell (endsWell b (pieceImage k v rest)) w ≡ true
+piece-ends : (k : Kind) (v rest w : List ℕ) (b : Bool) → endsWell (not (not (isLine k))) w ≡ true →
+    endsWell (endsWell b (pieceImage k v rest)) w ≡ true
 piece-ends lineEnd v rest w b h = unfold pieceImage in h
 piece-ends pageRun v rest w b h = ends-after w _ h
 piece-ends escape v rest w b h = ends-after w _ h
 piece-ends other v rest w b h = ends-after w _ h
 
-image-ends : (xs : List Piece) (b : Bool) → lineLast b xs ≡ true → endsWell b (image xs) ≡ true
-unfolding lineLast image
-image-ends [] b h = h
-image-ends (x ∷ xs) b h =
+-- where no newline is owed the image ends with 0A, or is empty
+image-ends : (xs : List Piece) (owed b : Bool) → owedAfter owed xs ≡ false → (owed ≡ false → b ≡ true) → endsWell b (image xs) ≡ true
+unfolding owedAfter image
+image-ends [] owed b h f = f h
+image-ends (x ∷ xs) owed b h f =
     rw (ends-append (pieceImage (x .kind) (x .text) (join xs)) (image xs) b)
-    (piece-ends (x .kind) (x .text) (join xs) (image xs) b (image-ends xs (isLine (x .kind)) h))
+    (piece-ends (x .kind) (x .text) (join xs) (image xs) b (image-ends xs (not (isLine (x .kind))) _ h (λ e. rw e)))
 
 -- 0A is an end, so no 34F follows it
 no-end-mark : (w : List ℕ) → endsWell true w ≡ true → endMark w ≡ []
@@ -73,21 +66,21 @@ module _ (p : List ℕ) where
   marked-ends [] h = refl
   marked-ends (x ∷ w) h = split (λ (l : List ℕ). endsWell true (l ++ (x ∷ w)) ≡ true) (basicTextStart p x) (λ e. h) (λ e. h)
 
-  ends-by : (xs : List Piece) (b : Bool) → lineLast true xs ≡ b → endsWell true (cleaned p xs) ≡ true
+  ends-by : (xs : List Piece) (owed : Bool) → owedAfter false xs ≡ owed → endsWell true (cleaned p xs) ≡ true
   unfolding cleaned
-  ends-by xs true h =
-      let a : endsWell true (image xs) ≡ true = image-ends xs true h in
-      rw (lastNewline-is xs, h, no-end-mark (image xs) a, append-nil (image xs)) (marked-ends (image xs) a)
-  ends-by xs false h = rw (lastNewline-is xs, h) (simp ends-append refl)
+  ends-by xs true h = rw (← lastNewline-is xs, h) (simp ends-append refl)
+  ends-by xs false h =
+      let a : endsWell true (image xs) ≡ true = image-ends xs false true h (λ e. refl) in
+      rw (← lastNewline-is xs, h, no-end-mark (image xs) a, append-nil (image xs)) (marked-ends (image xs) a)
 
   pub cleaned-ends : (xs : List Piece) → endsWell true (cleaned p xs) ≡ true
-  cleaned-ends xs = ends-by xs (lineLast true xs) refl
+  cleaned-ends xs = ends-by xs (owedAfter false xs) refl
 
   -- ---- how it begins
   module _ (good : accepted p ≡ true) where
-    newline-starts : (b : Bool) → startsWell p (cond b [] (0x0A ∷ [])) ≡ true
-    newline-starts true = refl
-    newline-starts false = start-newline p good
+    newline-starts : (owed : Bool) → startsWell p (cond owed (0x0A ∷ []) []) ≡ true
+    newline-starts true = start-newline p good
+    newline-starts false = refl
 
     marked-starts : (w u : List ℕ) → startsWell p u ≡ true → startsWell p (startMark p w ++ (w ++ (endMark w ++ u))) ≡ true
     unfolding startMark endMark
@@ -98,13 +91,9 @@ module _ (p : List ℕ) where
 
     pub cleaned-starts : (xs : List Piece) → startsWell p (cleaned p xs) ≡ true
     unfolding cleaned
-    cleaned-starts xs = marked-starts (image xs) (lastNewline xs) (rw (lastNewline-is xs) (newline-starts (lineLast true xs)))
+    cleaned-starts xs = marked-starts (image xs) (lastNewline xs) (rw (← lastNewline-is xs) (newline-starts (owedAfter false xs)))
 
 -- ---- what it holds
-holds : (b : Bool) → T b → b ≡ true
-holds true t = refl
-holds false t = absurd t
-
 all-append : (f : ℕ → Bool) (v w : List ℕ) → all f v ≡ true → all f w ≡ true → all f (v ++ w) ≡ true
 all-append f [] w h g = g
 all-append f (x ∷ v) w h g = let k = both-true (f x) (all f v) h in both (k .0) (all-append f v w (k .1) g)

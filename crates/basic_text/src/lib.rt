@@ -1,5 +1,6 @@
 // The library that Rust links: the scanner's calls, on lent bytes. Bytes are read as 32-bit numbers, a record goes in and comes back
-// as plain numbers, and nothing is allocated or kept between calls.
+// as plain numbers, and nothing is allocated or kept between calls. The crate also has demand 3, the promise on the scanner and the
+// writer as a whole: specs/Demand.antt, proofs/Demand.antt.
 //     numbers.rt    bytes as numbers
 //     plain.rt      a record, options and an answer as numbers
 //     run.rt        a run of characters

@@ -6,6 +6,7 @@
 --     self-newline ..       0A, 20, 34F and ESC are their own replacement
 --     accepted-newline ..   0A, 20, 34F and ESC are accepted; 1A is refused, as a control code
 --     ohm-names-itself      reason 16 for 2126 names 2126 itself
+--     holds                 a test that passes, as an equation
 use Prim.Native.Nat.{ℕ, _≤_, _<_}
 use mathlib.Core.Path.{_≡_, refl}
 use mathlib.Core.Bool.{Bool, true, false, not, _&&_, _||_}
@@ -57,7 +58,7 @@ replaced-clean c h n =
     place = split (ltb c 0x1b) (ltb→lt c 0x1b) (nltb→le c 0x1b)
 
 -- T of a test, as the equation
-holds : (b : Bool) → T b → b ≡ true
+pub holds : (b : Bool) → T b → b ≡ true
 holds true t = refl
 holds false t = absurd t
 

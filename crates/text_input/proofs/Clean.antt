@@ -20,7 +20,7 @@ use Rattle.replace.specs.Replace.{chars, replaceOf}
 use Rattle.replace.proofs.Rows.{and-i, and-l, and-r}
 use Rattle.text_utils.specs.Classes.{basicTextStart, basicTextEnd}
 use Rattle.check_char.specs.Check.{reasonOf, clean, all}
-use Rattle.check_char.proofs.Clean.{replaced-clean, replaced-chars}
+use Rattle.check_char.proofs.Clean.{replaced-clean, replaced-chars, holds}
 use Rattle.text_input.specs.declared.State.{State}
 use Rattle.text_input.specs.declared.State.the-variants.{Ground, Cr, Ff, Esc, CsiStart, Csi, Osc, Linux}
 use Rattle.text_input.specs.declared.Options.{Options}
@@ -121,10 +121,6 @@ to-test : (w : List ℕ) → areChars w ≡ true → T (all isChar w)
 to-test [] h = tt
 to-test (x ∷ w) h =
     let g = both-true (isChar x) (areChars w) h in and-i (isChar x) (all isChar w) (rw (g .0) tt) (to-test w (g .1))
-
-holds : (b : Bool) → T b → b ≡ true
-holds true t = refl
-holds false t = absurd t
 
 from-test : (w : List ℕ) → T (all isChar w) → areChars w ≡ true
 from-test [] h = refl

@@ -7,6 +7,7 @@
 --     stream-count                the count after a stream
 --     stream-from, stream-start   a stream from a record that a finish left, after a scan and before the first
 --     ready                       such a record
+--     lastNewline-is              a whole text's last newline is the one that is owed
 use Prim.Native.Nat.{ℕ, _+_}
 use mathlib.Core.Bool.{Bool, true, false, cond, not, _&&_, _||_}
 use mathlib.Core.List.{List, [], _∷_, _++_, append-assoc, flatten}
@@ -53,7 +54,7 @@ unfolding owedAfter lastNewline
 newline-is owed x [] = cond-not (isLine (x .kind)) (0x0A ∷ []) []
 newline-is owed x (y ∷ xs) = newline-is (not (isLine (x .kind))) y xs
 
-lastNewline-is : (xs : List Piece) → cond (owedAfter false xs) (0x0A ∷ []) [] ≡ lastNewline xs
+pub lastNewline-is : (xs : List Piece) → cond (owedAfter false xs) (0x0A ∷ []) [] ≡ lastNewline xs
 lastNewline-is [] = unfold owedAfter lastNewline in refl
 lastNewline-is (x ∷ xs) = newline-is false x xs
 

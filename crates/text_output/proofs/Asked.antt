@@ -2,8 +2,8 @@
 -- tests that step and definition share. Assumes nothing.
 --     doneBy         what a step asks for, done to a writer
 --     step-asked     the definition's step is what is asked for, done, for every character but 1A
---     hold-few       a sound writer that is asked to hold a character holds fewer than 64
---     whole-few      so does one whose escape ends
+--     takes          a step by which an escape takes one more character
+--     takes-few      a sound writer that is asked for one holds fewer than 64
 use Prim.Native.Nat.{ℕ, _<_}
 use mathlib.Core.Bool.{Bool, true, false, cond, _&&_, _||_}
 use mathlib.Core.List.{List, [], _∷_, _++_}
@@ -12,7 +12,7 @@ use native.Mathlib.Omega.{arith}
 use lib.Dec.{eqb, leb, ltb}
 use lib.ListN.{take}
 use borrow.Author.Tests.{eqb-true, ltb-true}
-use Rattle.unicode.proofs.Kit.{by, both-true}
+use Rattle.unicode.proofs.Kit.{never, by, both-true}
 use Rattle.text_utils.specs.Classes.{basicTextEnd}
 use Rattle.check_char.specs.declared.BasicTextError.the-variants.{Escape, UnrecognizedEscape}
 use Rattle.check_char.specs.Check.{errorNumbers}
@@ -51,28 +51,24 @@ module _ (w : TextOutput) (error : List ℕ) (c : ℕ) (n : eqb c 0x1A ≡ false
   step-asked a e = rw (← e) (asked-in (w .state))
 
 -- ---- fewer than 64
-csi-few : (held c : ℕ) (a : Step) → csiAsked held c ≡ a → ((b : Bool) → cond b Full Unrecognized ≡ a → ⊥) → held < 64
-csi-few held c a e f =
-    by (ltb held 64) (λ t. ltb-true held 64 t) (λ t. absurd (f ((leb 0x20 c && leb c 0x3F) || eqb c 0x6D) (rw t at e)))
+-- the escape takes one more character: it is held, or ends the escape
+abbrev pub takes : Step → Bool
+takes (Out g) = false
+takes (Hold s) = true
+takes Whole = true
+takes NoColor = false
+takes Unrecognized = false
+takes Full = false
 
-few-in : (s : State) (w : TextOutput) (c : ℕ) (a : Step) → heldIn s (w .held) ≡ true → askedIn s (w .mode) (w .held) c ≡ a →
-    ((b : Bool) → cond b Full Unrecognized ≡ a → ⊥) → w .held < 64
-few-in (Ground g) w c a h e f = let z = eqb-true (w .held) 0 h in omega arith
-few-in Esc w c a h e f = let z = eqb-true (w .held) 1 h in omega arith
-few-in Csi w c a h e f = csi-few (w .held) c a e f
+csi-few : (held c : ℕ) → takes (csiAsked held c) ≡ true → held < 64
+csi-few held c h =
+    by (ltb held 64) (λ t. ltb-true held 64 t)
+    (λ t. by ((leb 0x20 c && leb c 0x3F) || eqb c 0x6D) (λ b. never (rw (b, t) at h)) (λ b. never (rw b at h)))
 
-pub hold-few : (w : TextOutput) (c : ℕ) (s : State) → sound w ≡ true → askedIn (w .state) (w .mode) (w .held) c ≡ Hold s → w .held < 64
-hold-few w c s h e =
-    few-in (w .state) w c (Hold s) (both-true (leb (w .held) 64) (heldIn (w .state) (w .held)) h .1) e not-held
-  where
-    not-held : (b : Bool) → cond b Full Unrecognized ≡ Hold s → ⊥
-    not-held true k = let z : _≡_ {A = ℕ} 0 1 = cc in omega arith
-    not-held false k = let z : _≡_ {A = ℕ} 0 1 = cc in omega arith
+few-in : (s : State) (w : TextOutput) (c : ℕ) → heldIn s (w .held) ≡ true → takes (askedIn s (w .mode) (w .held) c) ≡ true → w .held < 64
+few-in (Ground g) w c h e = let z = eqb-true (w .held) 0 h in omega arith
+few-in Esc w c h e = let z = eqb-true (w .held) 1 h in omega arith
+few-in Csi w c h e = csi-few (w .held) c e
 
-pub whole-few : (w : TextOutput) (c : ℕ) → sound w ≡ true → askedIn (w .state) (w .mode) (w .held) c ≡ Whole → w .held < 64
-whole-few w c h e =
-    few-in (w .state) w c Whole (both-true (leb (w .held) 64) (heldIn (w .state) (w .held)) h .1) e not-whole
-  where
-    not-whole : (b : Bool) → cond b Full Unrecognized ≡ Whole → ⊥
-    not-whole true k = let z : _≡_ {A = ℕ} 0 1 = cc in omega arith
-    not-whole false k = let z : _≡_ {A = ℕ} 0 1 = cc in omega arith
+pub takes-few : (w : TextOutput) (c : ℕ) → sound w ≡ true → takes (askedIn (w .state) (w .mode) (w .held) c) ≡ true → w .held < 64
+takes-few w c h e = few-in (w .state) w c (both-true (leb (w .held) 64) (heldIn (w .state) (w .held)) h .1) e

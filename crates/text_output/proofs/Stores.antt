@@ -1,7 +1,7 @@
 -- What `push` stores, by what its step asks for: the definition's step is what is asked for, done, and so there is room for it.
 -- Assumes nothing.
 --     does                          the definition's step is what is asked for, done
---     hold-low, whole-low           the escape holds fewer than 64
+--     takes-low                     an escape that takes one more character holds fewer than 64
 --     out-room, whole-room          there is room for the character, for the whole escape
 --     whole-stored, whole-length    the held characters and then the one that ends them are stored one behind the other
 use Prim.Native.Nat.{ℕ, _+_, _≤_, _<_}
@@ -14,14 +14,13 @@ use lib.ListN.{length, take, set, length-append, length-take}
 use lib.Seq.{sets}
 use Rattle.unicode.proofs.Lists.{sets-append}
 use Rattle.text_output.specs.declared.Ground.{Ground}
-use Rattle.text_output.specs.declared.State.{State}
 use Rattle.text_output.specs.declared.step.Step.{Step}
-use Rattle.text_output.specs.declared.step.Step.the-variants.{Out, Hold, Whole}
+use Rattle.text_output.specs.declared.step.Step.the-variants.{Out, Whole}
 use Rattle.text_output.specs.declared.store.Place.{Place}
 use Rattle.text_output.specs.Writer.{sound}
 use Rattle.text_output.specs.Step.{stepOf}
 use Rattle.text_output.specs.Inner.{askedIn, writerAt, pushed}
-use Rattle.text_output.proofs.Asked.{doneBy, step-asked, hold-few, whole-few}
+use Rattle.text_output.proofs.Asked.{doneBy, step-asked, takes, takes-few}
 
 module _ (w : Place) (e : List ℕ) (c : ℕ) where
   abbrev asked : Step
@@ -31,13 +30,9 @@ module _ (w : Place) (e : List ℕ) (c : ℕ) where
   unfolding writerAt
   does n a q = step-asked (writerAt w e) [] c n a q
 
-  pub hold-low : (s : State) → sound (writerAt w e) ≡ true → asked ≡ Hold s → w .held < 64
+  pub takes-low : sound (writerAt w e) ≡ true → takes asked ≡ true → w .held < 64
   unfolding writerAt
-  hold-low s h q = hold-few (writerAt w e) c s h q
-
-  pub whole-low : sound (writerAt w e) ≡ true → asked ≡ Whole → w .held < 64
-  unfolding writerAt
-  whole-low h q = whole-few (writerAt w e) c h q
+  takes-low h q = takes-few (writerAt w e) c h q
 
   module _ (n : eqb c 0x1A ≡ false) (out : List ℕ) (room : w .at + length (pushed (stepOf (writerAt w e) [] c)) ≤ length out) where
     pub out-room : (g : Ground) → asked ≡ Out g → w .at < length out

@@ -1,13 +1,14 @@
 -- `push` meets its contract: in each arm what is stored, and the record after, are what the step asks for, done.
 use Prim.Native.Nat.{_+_, _<_}
-use mathlib.Core.Path.{refl, sym, _∙_}
+use mathlib.Core.Path.{refl, ap, sym, _∙_}
 use native.Mathlib.Nat.{add-zero, sub-zero}
 use native.Mathlib.Omega.{arith}
 use denote.Ref.{now}
 use lib.ListN.{length}
 use borrow.Author.Needs.{needs}
 use Rattle.text_output.specs.Inner.{writerAt}
-use Rattle.text_output.proofs.Stores.{does, hold-low, whole-low, out-room, whole-room, whole-stored, whole-length}
+use Rattle.text_output.proofs.Asked.{takes}
+use Rattle.text_output.proofs.Stores.{does, takes-low, out-room, whole-room, whole-stored, whole-length}
 use Rattle.text_output.proofs.step.state_machine_char.Reads as step-reads
 use Rattle.text_output.proofs.store.put_run.Reads as put-reads
 use Rattle.text_output.proofs.store.push.Statement.{statement}
@@ -27,14 +28,16 @@ hold-fits : (h : Held) → h .before .before .before .before .before .args .w .h
 hold-fits h =
     let s = h .before .before in
     let a = s .before .before .before .args in
-    hold-low (a .w) (now (a .escape)) (a .c) _ (s .before .before .before .pre .1 .0) (sym (s .state-machine-char .ensures) ∙ h .asked2 .given .1)
+    takes-low (a .w) (now (a .escape)) (a .c) (s .before .before .before .pre .1 .0)
+    (ap takes (sym (s .state-machine-char .ensures) ∙ h .asked2 .given .1))
 
 -- a character that ends the escape: the same, and there is room for all of it
 ends-low : (m : Ends) → m .before .before .before .before .before .args .w .held < 64
 ends-low m =
     let s = m .before .before in
     let a = s .before .before .before .args in
-    whole-low (a .w) (now (a .escape)) (a .c) (s .before .before .before .pre .1 .0) (sym (s .state-machine-char .ensures) ∙ m .enum-told .given .1)
+    takes-low (a .w) (now (a .escape)) (a .c) (s .before .before .before .pre .1 .0)
+    (ap takes (sym (s .state-machine-char .ensures) ∙ m .enum-told .given .1))
 
 ends-room : (m : Ends) →
     let a = m .before .before .before .before .before .args in
