@@ -19,7 +19,7 @@ use Rattle.text_input.proofs.Unique.{exists, unique}
 use Rattle.text_input.proofs.Streams.{whole}
 use Rattle.text_output.specs.declared.Mode.the-variants.{Plain}
 use Rattle.text_output.specs.Writer.{Given, Outcome as WriteOutcome, fresh as freshWriter}
-use Rattle.text_output.specs.Write.{placesFor, writeOf}
+use Rattle.text_output.specs.Write.{placesFor, writeStrOf}
 use Rattle.text_output.specs.Close.{closeOf}
 use Rattle.text_output.specs.Passing.{Passes}
 use Rattle.text_output.proofs.Writable.{writable-of}
@@ -69,7 +69,7 @@ module _ (page : List ℕ) (good : accepted page ≡ true) (options : Options) (
 
   passes-is : all (λ (c : ℕ). not (any kept c)) queue ≡ true →
       (places : List ℕ) → placesFor (freshWriter Plain) (length queue) ≤ length places →
-      (wrote : WriteOutcome) → wrote ≡ writeOf (freshWriter Plain) page queue places →
+      (wrote : WriteOutcome) → wrote ≡ writeStrOf (freshWriter Plain) page queue places →
       (closed : Given) → closed ≡ closeOf (wrote .given .next) → Passes page queue wrote closed
   passes-is none places room wrote w closed c =
       rw (c, w) (passes-plain page good queue places queue-chars (writable-of queue queue-clean none) queue-starts queue-ends room)

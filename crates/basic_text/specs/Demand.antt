@@ -13,7 +13,7 @@ use Rattle.text_input.specs.Scan.{Outcome, fresh}
 use Rattle.text_input.specs.Pieces.{Piece, Reading, cleaned}
 use Rattle.text_output.specs.declared.Mode.the-variants.{Plain}
 use Rattle.text_output.specs.Writer.{Given, Outcome as WriteOutcome, fresh as freshWriter}
-use Rattle.text_output.specs.Write.{placesFor, writeOf}
+use Rattle.text_output.specs.Write.{placesFor, writeStrOf}
 use Rattle.text_output.specs.Close.{closeOf}
 use Rattle.text_output.specs.Passing.{Passes}
 use Rattle.basic_text.specs.Calls.{Call, Seen, queueOf, recordAfter, acceptedFrom, acceptedChunks, textOf, FinishedOnce}
@@ -40,7 +40,7 @@ pub record Promise (page : List ℕ) (options : Options) (calls : List Call) (qu
   -- write returned. Enough room is at least what a write of that length needs."
   pub passes : all (λ (c : ℕ). not (any kept c)) queue ≡ true →
       (places : List ℕ) → placesFor (freshWriter Plain) (length queue) ≤ length places →
-      (wrote : WriteOutcome) → wrote ≡ writeOf (freshWriter Plain) page queue places →
+      (wrote : WriteOutcome) → wrote ≡ writeStrOf (freshWriter Plain) page queue places →
       (closed : Given) → closed ≡ closeOf (wrote .given .next) → Passes page queue wrote closed
 
 -- for every accepted page, options, list of calls and what a caller sees of it, from a fresh record

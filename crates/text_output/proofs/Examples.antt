@@ -23,7 +23,7 @@ use Rattle.text_output.specs.declared.Mode.the-variants.{Plain, Crlf, Co
 use Rattle.text_output.specs.declared.TextOutput.{TextOutput}
 use Rattle.text_output.specs.Writer.{Given, Outcome, fresh}
 use Rattle.text_output.specs.Step.{groundStep, escStep, csiStep, stepsOf}
-use Rattle.text_output.specs.Write.{runOf, parts, moreParts, writeRefusal, writeOf}
+use Rattle.text_output.specs.Write.{runOf, parts, moreParts, writeRefusal, writeStrOf}
 use Rattle.text_output.specs.Close.{done, flushOf, closeOf, abandonOf}
 
 -- a call: a write brings so many of the places that live with the writer, and characters; or, between two calls, the record claims
@@ -87,8 +87,8 @@ claiming w n =
 abbrev act : List ℕ → TextOutput → List ℕ → Act → Outcome
 act p w places (write room chars) =
     record {
-      given = writeOf w p chars (take room places) .given;
-      places = writeOf w p chars (take room places) .places ++ drop room places;
+      given = writeStrOf w p chars (take room places) .given;
+      places = writeStrOf w p chars (take room places) .places ++ drop room places;
     }
 act p w places flush = record { given = flushOf w; places = places }
 act p w places close = record { given = closeOf w; places = places }
@@ -324,7 +324,7 @@ table =
     ∷ []
 
 pub examples : map computed table ≡ map (λ (row : Row). row .expected) table
-unfolding table writeOf writeRefusal runOf parts moreParts stepsOf groundStep escStep csiStep flushOf closeOf abandonOf isChar
+unfolding table writeStrOf writeRefusal runOf parts moreParts stepsOf groundStep escStep csiStep flushOf closeOf abandonOf isChar
     replaceOf reasonOf checkNumbers basicTextStart basicTextEnd starter graphemeExtendNotCgj spacingMarkPlus isPrivateUse
     unassigned isolateStep isolateOf accepted sized rising nonstarter assigned member rises
 examples = refl

@@ -2,6 +2,12 @@
 pub mod Answers
 pub mod Asked
 pub mod Stores
+pub mod Rest
+pub mod Stays
+pub mod Progress
+pub mod Turns
+pub mod Runs
+pub mod Ends
 pub mod Writable
 pub mod Passing
 pub mod Examples

@@ -41,7 +41,7 @@ use Rattle.text_output.specs.declared.Mode.the-variants.{Plain}
 use Rattle.text_output.specs.declared.TextOutput.{TextOutput}
 use Rattle.text_output.specs.Writer.{Given, fresh, sound, onGround}
 use Rattle.text_output.specs.Step.{goes}
-use Rattle.text_output.specs.Write.{runOf, runIn, handOut, finished, placesFor, writeRefusal, writeOf}
+use Rattle.text_output.specs.Write.{runOf, runIn, handOut, finished, placesFor, writeRefusal, writeStrOf}
 use Rattle.text_output.specs.Close.{closeOf}
 use Rattle.text_output.specs.Passing.{Passes}
 use Rattle.text_output.proofs.Writable.{writable, groundOf, groundAfter, isolated-goes}
@@ -97,8 +97,8 @@ lines-go p a cs w s n f l =
     rw (ends-on-newline (isolateOf p cs) Newline true (λ t. refl) (ends-isolated p a cs l)) at (isolated-goes p cs w Newline s n f)
 
 pub write-runs : (w : TextOutput) (p cs places : List ℕ) → sound w ≡ true → accepted p ≡ true → areChars cs ≡ true →
-    placesFor w (length cs) ≤ length places → writeOf w p cs places ≡ finished p (runIn (w .mode) p w cs) places
-unfolding writeOf writeRefusal
+    placesFor w (length cs) ≤ length places → writeStrOf w p cs places ≡ finished p (runIn (w .mode) p w cs) places
+unfolding writeStrOf writeRefusal
 write-runs w p cs places s a c room = rw (s, a, c, le-ltb (length places) (placesFor w (length cs)) room)
 
 -- an answer that hands out k characters from a writer
@@ -130,7 +130,7 @@ isolated-fits p (c ∷ cs) = omega (arith, length-isolate p (c ∷ cs))
 pub passes-plain : (p : List ℕ) → accepted p ≡ true → (q places : List ℕ) →
     areChars q ≡ true → all writable q ≡ true → startsWell p q ≡ true → endsWell true q ≡ true →
     placesFor (fresh Plain) (length q) ≤ length places →
-    Passes p q (writeOf (fresh Plain) p q places) (closeOf (writeOf (fresh Plain) p q places .given .next))
+    Passes p q (writeStrOf (fresh Plain) p q places) (closeOf (writeStrOf (fresh Plain) p q places .given .next))
 passes-plain p a q places c f s l room =
     let xs = isolateOf p q in
     let rest = drop (length xs) places in

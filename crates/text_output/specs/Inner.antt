@@ -1,17 +1,25 @@
 -- What the private functions of this crate answer, step by step. No public contract cites this file. Assumes nothing.
 use Prim.Native.Nat.{ℕ, _+_}
-use mathlib.Core.Bool.{Bool, cond, _&&_, _||_}
+use mathlib.Core.Bool.{Bool, true, false, cond, not, _&&_, _||_}
 use mathlib.Core.List.{List, [], _∷_}
 use lib.Dec.{eqb, leb, ltb}
-use lib.ListN.{length}
+use lib.ListN.{length, getD}
 use lib.Seq.{sets}
-use Rattle.text_utils.specs.Classes.{basicTextEnd}
-use Rattle.check_char.specs.Check.{errorNumbers}
+use Rattle.page.specs.Page.{accepted}
+use Rattle.text_utils.specs.Classes.{basicTextStart, basicTextEnd}
+use Rattle.check_char.specs.declared.BasicTextError.the-variants.{UnrecognizedEscape}
+use Rattle.check_char.specs.Check.{errorNumbers, checkNumbers}
+use Rattle.isolate_unassigned.specs.declared.IsolateUnassigned.{IsolateUnassigned}
+use Rattle.isolate_unassigned.specs.Isolate.{fresh, given, after, finishOf}
+use Rattle.isolate_unassigned.specs.Isolate.{stepOf as isolatedBy}
 use Rattle.text_output.specs.declared.Ground.the-variants.{Newline, ZwjOrPrepend, Other}
 use Rattle.text_output.specs.declared.State.{State}
 use Rattle.text_output.specs.declared.State.the-variants.{Ground, Esc, Csi}
 use Rattle.text_output.specs.declared.Mode.{Mode}
+use Rattle.text_output.specs.declared.Mode.the-variants.{Plain, Crlf, Color}
 use Rattle.text_output.specs.declared.TextOutput.{TextOutput}
+use Rattle.text_output.specs.declared.Wrote.{Wrote}
+use Rattle.text_output.specs.declared.Wrote.the-variants.{HandedOut, Refused, Abandon, Unwritable}
 use Rattle.text_output.specs.declared.step.Step.{Step}
 use Rattle.text_output.specs.declared.step.Step.the-variants.{Out, Hold, Whole, NoColor, Unrecognized, Full}
 use Rattle.text_output.specs.declared.store.Place.{Place}
@@ -19,7 +27,9 @@ use Rattle.text_output.specs.declared.store.Stop.{Stop}
 use Rattle.text_output.specs.declared.store.Stop.the-variants.{Reason, Limit}
 use Rattle.text_output.specs.declared.store.Pushed.{Pushed}
 use Rattle.text_output.specs.declared.store.Pushed.the-variants.{On, Stopped}
-use Rattle.text_output.specs.Step.{Stepped, goes, stops, isColor}
+use Rattle.text_output.specs.Writer.{Outcome, sound, keeping, abandonedBy}
+use Rattle.text_output.specs.Step.{Stepped, goes, stops, andThen, isColor, stepsOf}
+use Rattle.text_output.specs.Write.{checked, lineEnd, handOut}
 
 -- ---- a step, as small as it is asked for
 -- outside an escape, of a character that is no 1A
@@ -66,8 +76,13 @@ abbrev pub stopped : Stepped → List ℕ
 stopped (goes xs w) = []
 stopped (stops xs w n) = n
 
--- the place after them, the writer, the refusal's numbers and the lent places
+abbrev pub goesOn : Stepped → Bool
+goesOn (goes xs w) = true
+goesOn (stops xs w n) = false
+
+-- whether they go on, the place after them, the writer, the refusal's numbers and the lent places
 pub record Progress : Type 0 where
+  pub going : Bool
   pub at : ℕ
   pub writer : TextOutput
   pub refusal : List ℕ
@@ -75,7 +90,13 @@ pub record Progress : Type 0 where
 
 abbrev pub stored : ℕ → List ℕ → Stepped → Progress
 stored at places s =
-    record { at = at + length (pushed s); writer = writerAfter s; refusal = stopped s; places = sets places at (pushed s) }
+    record {
+      going = goesOn s;
+      at = at + length (pushed s);
+      writer = writerAfter s;
+      refusal = stopped s;
+      places = sets places at (pushed s);
+    }
 
 -- the same of what a private function answers
 abbrev pub stopNumbers : Stop → List ℕ
@@ -83,6 +104,62 @@ stopNumbers (Reason e) = 4 ∷ errorNumbers e
 stopNumbers Limit = 6 ∷ []
 
 abbrev pub progress : Pushed → List ℕ → List ℕ → Progress
-progress (On w) escape places = record { at = w .at; writer = writerAt w escape; refusal = []; places = places }
+progress (On w) escape places = record { going = true; at = w .at; writer = writerAt w escape; refusal = []; places = places }
 progress (Stopped w stop) escape places =
-    record { at = w .at; writer = writerAt w escape; refusal = stopNumbers stop; places = places }
+    record { going = false; at = w .at; writer = writerAt w escape; refusal = stopNumbers stop; places = places }
+
+-- ---- a write, character by character
+-- the reason's numbers that a refused character gives: in an escape those of reason 15
+abbrev pub refusedIn : State → List ℕ → List ℕ
+refusedIn (Ground g) error = error
+refusedIn Esc error = errorNumbers UnrecognizedEscape
+refusedIn Csi error = errorNumbers UnrecognizedEscape
+
+-- whether 0A ends a part
+abbrev pub isCrlf : Mode → Bool
+isCrlf Plain = false
+isCrlf Crlf = true
+isCrlf Color = false
+
+-- one character, where the isolator stands at r: 0A with the 34F that is owed before it, where it ends a part; any other checked,
+-- isolated and stepped
+unfoldable pub turnOf : Bool → List ℕ → TextOutput → IsolateUnassigned → ℕ → Stepped
+turnOf crlf p w r c =
+    cond (crlf && eqb c 0x0A) (andThen (stepsOf w [] (finishOf r)) lineEnd)
+    (stepsOf w (checkNumbers c) (given (isolatedBy p r (checked c))))
+
+-- the isolator after it
+unfoldable pub isolatorAfter : Bool → List ℕ → IsolateUnassigned → ℕ → IsolateUnassigned
+isolatorAfter crlf p r c = cond (crlf && eqb c 0x0A) fresh (after (isolatedBy p r (checked c)))
+
+-- what is left of a write
+unfoldable pub restOf : Bool → List ℕ → TextOutput → IsolateUnassigned → List ℕ → Stepped
+restOf crlf p w r [] = stepsOf w [] (finishOf r)
+restOf crlf p w r (c ∷ cs) =
+    andThen (turnOf crlf p w r c) (λ next. restOf crlf p next (isolatorAfter crlf p r c) cs)
+
+-- ---- the entries' parts
+-- 9, then 2; 0 where neither refuses
+abbrev pub refusedBefore : TextOutput → List ℕ → ℕ
+refusedBefore w p = cond (not (sound w)) 9 (cond (not (accepted p)) 2 0)
+
+-- the first n places are none or begin with a start
+abbrev pub startOrNone : List ℕ → ℕ → List ℕ → Bool
+startOrNone p n places = not (ltb 0 n && not (basicTextStart p (getD places 0 0)))
+
+-- how a write ends, by where its steps led
+abbrev pub endOf : List ℕ → Progress → Outcome
+endOf p x =
+    record {
+      given =
+        cond (x .going) (handOut p (x .writer) (x .at) (x .places))
+        (abandonedBy (x .refusal) (keeping (x .writer) (x .writer .«expect_starter») (x .at)));
+      places = x .places;
+    }
+
+-- whether an answer hands out
+abbrev pub handsOut : Wrote → Bool
+handsOut (HandedOut k) = true
+handsOut (Refused n) = false
+handsOut (Abandon n) = false
+handsOut (Unwritable e) = false

@@ -96,8 +96,8 @@ writeRefusal w p chars room =
     (cond (not (accepted p)) 2 (cond (not (areChars chars)) 1 (cond (ltb room (placesFor w (length chars))) 8 0)))
 
 -- ", then 4 or 6 as met, then 5."
-unfoldable pub writeOf : TextOutput → List ℕ → List ℕ → List ℕ → Outcome
-writeOf w p chars places =
+unfoldable pub writeStrOf : TextOutput → List ℕ → List ℕ → List ℕ → Outcome
+writeStrOf w p chars places =
     cond (eqb (writeRefusal w p chars (length places)) 0) (finished p (runIn (w .mode) p w chars) places)
     (record { given = refusedBy (writeRefusal w p chars (length places)) w; places = places })
 
@@ -106,17 +106,21 @@ writeOf w p chars places =
 abbrev pub beginsNone : List ℕ → Bool
 beginsNone bytes = ltb 0 (length bytes) && eqb (length (charsOf bytes)) 0
 
+-- whether an answer's numbers are those of a write that is accepted
+abbrev pub accepts : List ℕ → Bool
+accepts [] = false
+accepts (n ∷ ns) = eqb n 0
+
 -- how many bytes were taken: those of the longest valid prefix, where the write is accepted
 abbrev pub usedBy : List ℕ → List ℕ → ℕ
-usedBy [] bytes = 0
-usedBy (n ∷ ns) bytes = cond (eqb n 0) (length (encodes (charsOf bytes))) 0
+usedBy numbers bytes = cond (accepts numbers) (length (encodes (charsOf bytes))) 0
 
 abbrev pub taking : List ℕ → Outcome → BytesOutcome
 taking bytes o = record { used = usedBy (o .given .numbers) bytes; outcome = o }
 
 -- "Byte writes take the longest valid prefix". 3 comes after 9 and 2, and leaves expectation and kept characters.
-unfoldable pub writeBytesOf : TextOutput → List ℕ → List ℕ → List ℕ → BytesOutcome
-writeBytesOf w p bytes places =
+unfoldable pub writeOf : TextOutput → List ℕ → List ℕ → List ℕ → BytesOutcome
+writeOf w p bytes places =
     cond (sound w && (accepted p && beginsNone bytes))
     (taking bytes (record { given = abandonedBy (3 ∷ []) w; places = places }))
-    (taking bytes (writeOf w p (charsOf bytes) places))
+    (taking bytes (writeStrOf w p (charsOf bytes) places))

@@ -4,6 +4,10 @@
 // the caller is to abandon the stream.
 //     step.rt    one character in one state: `state_machine_char` without its stores
 //     store.rt   the stores of a step
+//     run.rt     the steps of a write
+//     end.rt     how a write ends
+mod end;
+mod run;
 mod step;
 mod store;
 

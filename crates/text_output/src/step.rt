@@ -8,7 +8,7 @@ use text_utils::is_basic_text_end;
 use unicode::ESC;
 ghost use mathlib.Core.Path.{_≡_};
 ghost use Rattle.text_output.specs.Step.{isColor};
-ghost use Rattle.text_output.specs.Inner.{groundAsked, escAsked, csiAsked, askedIn};
+ghost use Rattle.text_output.specs.Inner.{groundAsked, escAsked, csiAsked, askedIn, isCrlf};
 
 // What a step asks for.
 pub enum Step {
@@ -34,6 +34,17 @@ fn is_color(mode: Mode) -> bool
         Mode::Plain => false,
         Mode::Crlf => false,
         Mode::Color => true,
+    }
+}
+
+// Whether a newline ends a part.
+pub fn is_crlf(mode: Mode) -> bool
+    ensures { λ r. ⌜ r ≡ isCrlf mode ⌝ }
+{
+    match mode {
+        Mode::Plain => false,
+        Mode::Crlf => true,
+        Mode::Color => false,
     }
 }
 

@@ -1,0 +1,135 @@
+// How a write ends: what its steps stored is handed out, or stays kept. `write_buffer` of the Rust, and what `write_str` does on an
+// error.
+use super::Ground;
+use super::State;
+use super::TextOutput;
+use super::Written;
+use super::Wrote;
+use super::store::Place;
+use super::store::Pushed;
+use super::store::Stop;
+use text_utils::is_basic_text_start;
+ghost use mathlib.Core.Path.{_≡_};
+ghost use mathlib.Core.Bool.{true};
+ghost use Prim.Native.Nat.{_≤_};
+ghost use lib.ListN.{length};
+ghost use Rattle.page.specs.Page.{accepted};
+ghost use Rattle.text_output.specs.Writer.{wroteNumbers, wroteTells, writtenOutcome};
+ghost use Rattle.text_output.specs.Write.{accepts};
+ghost use Rattle.text_output.specs.declared.store.Pushed.the-variants.{On, Stopped};
+ghost use Rattle.text_output.specs.Inner.{writerAt, stopNumbers, progress, handsOut, startOrNone, endOf};
+
+// A writer's record at a place of its buffer, as a write begins: behind the kept characters.
+pub fn place_of(w: TextOutput) -> Place
+    ensures { λ r. ⌜ writerAt r (w .«escape_sequence») ≡ w ⌝ }
+    ensures { λ r. ⌜ r .at ≡ w .kept ⌝ }
+{
+    let mode = w.mode;
+    let state = w.state;
+    Place {
+        mode,
+        expect_starter: w.expect_starter,
+        state,
+        kept: w.kept,
+        held: w.held,
+        at: w.kept,
+    }
+}
+
+// Whether the characters to hand out are none or begin with a start. Inner: asks for an accepted page, and that they are lent.
+fn start_or_none(page: &[u32], n: usize, out: &[u32]) -> bool
+    requires page { ⌜ accepted (now page) ≡ true ⌝ }
+    requires lent { ⌜ n ≤ length (now out) ⌝ }
+    ensures { λ r. ⌜ r ≡ startOrNone (now (page .entry)) n (now (out .entry)) ⌝ }
+{
+    if n == 0 {
+        return true;
+    }
+    is_basic_text_start(page, out[0])
+}
+
+// The characters up to the place are handed out, or refused by 5 and kept. Inner, as `start_or_none`.
+fn hand_out(page: &[u32], w: Place, escape: [u32; 64], out: &[u32]) -> Written
+    requires page { ⌜ accepted (now page) ≡ true ⌝ }
+    requires lent { ⌜ w .at ≤ length (now out) ⌝ }
+    ensures outcome { λ r. ⌜
+        writtenOutcome r (now (out .entry)) ≡ endOf (now (page .entry)) (progress (On w) escape (now (out .entry)))
+        ⌝ }
+    ensures told { λ r. ⌜ handsOut (r .answer) ≡ accepts (wroteNumbers (r .answer)) ⌝ }
+{
+    let mode = w.mode;
+    let state = w.state;
+    if w.expect_starter & !start_or_none(page, w.at, out) {
+        Written {
+            answer: Wrote::Abandon(5),
+            next: TextOutput {
+                mode,
+                expect_starter: false,
+                state: State::Ground(Ground::Newline),
+                kept: w.at,
+                held: 0,
+                escape_sequence: escape,
+            },
+        }
+    } else {
+        Written {
+            answer: Wrote::HandedOut(w.at),
+            next: TextOutput {
+                mode,
+                expect_starter: false,
+                state,
+                kept: 0,
+                held: w.held,
+                escape_sequence: escape,
+            },
+        }
+    }
+}
+
+// What a refused step answers.
+fn refused(stop: Stop) -> Wrote
+    ensures { λ r. ⌜ wroteNumbers r ≡ stopNumbers stop ⌝ }
+    ensures { λ r. ⌜ wroteTells r ≡ true ⌝ }
+    ensures { λ r. ⌜ handsOut r ≡ accepts (wroteNumbers r) ⌝ }
+{
+    match stop {
+        Stop::Reason(e) => Wrote::Unwritable(e),
+        Stop::Limit => Wrote::Abandon(6),
+    }
+}
+
+// A refused step: the characters before it stay kept.
+fn keep(page: &[u32], w: Place, stop: Stop, escape: [u32; 64], out: &[u32]) -> Written
+    ensures outcome { λ r. ⌜
+        writtenOutcome r (now (out .entry)) ≡ endOf (now (page .entry)) (progress (Stopped w stop) escape (now (out .entry)))
+        ⌝ }
+    ensures told { λ r. ⌜ handsOut (r .answer) ≡ accepts (wroteNumbers (r .answer)) ⌝ }
+{
+    let mode = w.mode;
+    Written {
+        answer: refused(stop),
+        next: TextOutput {
+            mode,
+            expect_starter: w.expect_starter,
+            state: State::Ground(Ground::Newline),
+            kept: w.at,
+            held: 0,
+            escape_sequence: escape,
+        },
+    }
+}
+
+// How a write ends, by where its steps led. Inner, as `start_or_none`.
+pub fn end(page: &[u32], pushed: Pushed, escape: [u32; 64], out: &[u32]) -> Written
+    requires page { ⌜ accepted (now page) ≡ true ⌝ }
+    requires lent { ⌜ progress pushed escape (now out) .at ≤ length (now out) ⌝ }
+    ensures outcome { λ r. ⌜
+        writtenOutcome r (now (out .entry)) ≡ endOf (now (page .entry)) (progress pushed escape (now (out .entry)))
+        ⌝ }
+    ensures told { λ r. ⌜ handsOut (r .answer) ≡ accepts (wroteNumbers (r .answer)) ⌝ }
+{
+    match pushed {
+        Pushed::On(w) => hand_out(page, w, escape, out),
+        Pushed::Stopped(w, stop) => keep(page, w, stop, escape, out),
+    }
+}
