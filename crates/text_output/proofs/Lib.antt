@@ -10,4 +10,5 @@ pub mod Runs
 pub mod Ends
 pub mod Writable
 pub mod Passing
+pub mod Entries
 pub mod Examples

@@ -12,12 +12,24 @@ mod step;
 mod store;
 
 use check_char::BasicTextError;
+use end::end;
+use end::place_of;
+use page::is_accepted;
+use run::run;
+use run::run_bytes;
 use unicode::BOM;
+use unicode::are_chars;
+use unicode::valid_prefix;
 ghost use mathlib.Core.Path.{_≡_};
+ghost use mathlib.Core.Bool.{cond};
+ghost use mathlib.Core.List.{[], _∷_};
+ghost use lib.Dec.{ltb};
 ghost use Rattle.text_output.specs.declared.Mode.the-variants.{Plain, Crlf, Color};
 ghost use Rattle.text_output.specs.declared.State.the-variants.{Ground as Grounded};
-ghost use Rattle.text_output.specs.Writer.{fresh, heldIn, sound, answeredGiven};
-ghost use Rattle.text_output.specs.Close.{expecting, flushIn, flushOf, abandonOf};
+ghost use Rattle.text_output.specs.Writer.{fresh, heldIn, sound, wroteNumbers, writtenOutcome, bytesOutcome, answeredGiven, abandonedBy};
+ghost use Rattle.text_output.specs.Write.{placesFor, writeStrOf, accepts, writeOf};
+ghost use Rattle.text_output.specs.Close.{expecting, flushIn, flushOf, closeIn, closeOf, abandonOf};
+ghost use Rattle.text_output.specs.Inner.{refusedBefore, handsOut};
 
 // What stands last outside an escape.
 pub enum Ground {
@@ -228,6 +240,56 @@ impl TextOutput {
         }
     }
 
+    // The close of a sound record, by its state: whatever it answers, a start is expected again.
+    fn close_in(self, state: State) -> Answered
+        ensures { λ r. ⌜ answeredGiven r ≡ closeIn state self ⌝ }
+    {
+        match state {
+            State::Ground(ground) => self.close_ground(ground),
+            State::Esc => self.closed_by(13),
+            State::Csi => self.closed_by(13),
+        }
+    }
+
+    fn close_ground(self, ground: Ground) -> Answered
+        ensures { λ r. ⌜ answeredGiven r ≡ closeIn (Grounded ground) self ⌝ }
+    {
+        match ground {
+            Ground::Newline => Answered {
+                answer: Answer::Done,
+                next: self.expecting(),
+            },
+            Ground::ZwjOrPrepend => self.closed_by(11),
+            Ground::Other => self.closed_by(12),
+        }
+    }
+
+    // A close refused by this number.
+    fn closed_by(self, n: u32) -> Answered
+        ensures { λ r. ⌜ answeredGiven r ≡ abandonedBy (n ∷ []) (expecting self) ⌝ }
+    {
+        Answered {
+            answer: Answer::Abandon(n),
+            next: self.expecting().abandon(),
+        }
+    }
+
+    // The stream is closed. Total: refuses 9, and then by the state 11 after a non-end, 12 after another character that is no
+    // newline, or 13 in an escape; these put the writer after a newline.
+    pub fn close(self) -> Answered
+        ensures { λ r. ⌜ answeredGiven r ≡ closeOf self ⌝ }
+    {
+        if self.is_sound() {
+            let state = self.state;
+            self.close_in(state)
+        } else {
+            Answered {
+                answer: Answer::Refused(9),
+                next: self,
+            }
+        }
+    }
+
     // The stream is abandoned: the writer is after a newline and holds no escape. Total: refuses nothing, on any record.
     pub fn abandon(self) -> Self
         ensures { λ r. ⌜ r ≡ abandonOf self ⌝ }
@@ -242,6 +304,133 @@ impl TextOutput {
             held: 0,
             escape_sequence,
         }
+    }
+
+    // Whether so many places are too few for a write of n characters, kept + held + 3 × n. Total: no sum is made, since a forged
+    // record's would wrap.
+    fn is_short(self, n: usize, room: usize) -> bool
+        ensures { λ r. ⌜ r ≡ ltb room (placesFor self n) ⌝ }
+    {
+        if room < self.kept {
+            return true;
+        }
+        let behind = room - self.kept;
+        if behind < self.held {
+            return true;
+        }
+        (behind - self.held) / 3 < n
+    }
+
+    // 9, then 2; 0 where neither refuses.
+    fn refused_before(self, page: &[u32]) -> u32
+        ensures { λ r. ⌜ r ≡ refusedBefore self (now (page .entry)) ⌝ }
+    {
+        if !self.is_sound() {
+            return 9;
+        }
+        if is_accepted(page) {
+            return 0;
+        }
+        2
+    }
+
+    // Writes characters: they are stored behind the kept ones, and all are handed out. Total: refuses 9, then 2, then 1, then 8, and
+    // then leaves record and places; then 4 with its reason or 6, or 5 at the end.
+    pub fn write_str(self, page: &[u32], chars: &[u32], out: &mut [u32]) -> Written
+        ensures { λ r. ⌜
+            writtenOutcome r (now (out .exit)) ≡ writeStrOf self (now (page .entry)) (now (chars .entry)) (now (out .entry))
+            ⌝ }
+    {
+        let before = self.refused_before(page);
+        if before != 0 {
+            return Written {
+                answer: Wrote::Refused(before),
+                next: self,
+            };
+        }
+        if !are_chars(chars) {
+            return Written {
+                answer: Wrote::Refused(1),
+                next: self,
+            };
+        }
+        if self.is_short(chars.len(), out.len()) {
+            return Written {
+                answer: Wrote::Refused(8),
+                next: self,
+            };
+        }
+        let mut escape = self.escape_sequence;
+        let pushed = run(page, place_of(self), chars, &mut escape, out);
+        end(page, pushed, escape, out)
+    }
+
+    // Writes the longest valid prefix of bytes, and answers how many it takes. Total: refuses 9, then 2, then 3 where no character
+    // begins, then 8, and then as `write_str`.
+    pub fn write(self, page: &[u32], bytes: &[u8], out: &mut [u32]) -> WrittenBytes
+        ensures { λ r. ⌜
+            bytesOutcome r (now (out .exit)) ≡ writeOf self (now (page .entry)) (now (bytes .entry)) (now (out .entry))
+            ⌝ }
+    {
+        let before = self.refused_before(page);
+        if before != 0 {
+            return WrittenBytes {
+                used: 0,
+                answer: Wrote::Refused(before),
+                next: self,
+            };
+        }
+        let prefix = valid_prefix(bytes);
+        if (0 < bytes.len()) & (prefix.chars == 0) {
+            return WrittenBytes {
+                used: 0,
+                answer: Wrote::Abandon(3),
+                next: self.abandon(),
+            };
+        }
+        if self.is_short(prefix.chars, out.len()) {
+            return WrittenBytes {
+                used: 0,
+                answer: Wrote::Refused(8),
+                next: self,
+            };
+        }
+        let mut escape = self.escape_sequence;
+        let pushed = run_bytes(page, place_of(self), bytes, &mut escape, out);
+        let written = end(page, pushed, escape, out);
+        taking(prefix.bytes, written)
+    }
+}
+
+// A write of bytes that takes so many, where it is accepted. Inner: asks that nothing else says 0.
+fn taking(n: usize, written: Written) -> WrittenBytes
+    requires { ⌜ handsOut (written .answer) ≡ accepts (wroteNumbers (written .answer)) ⌝ }
+    ensures { λ r. ⌜ r .used ≡ cond (accepts (wroteNumbers (written .answer))) n 0 ⌝ }
+    ensures { λ r. ⌜ (r .answer ≡ written .answer) × (r .next ≡ written .next) ⌝ }
+{
+    let answer = written.answer;
+    let next = written.next;
+    match answer {
+        Wrote::HandedOut(_) => WrittenBytes {
+            used: n,
+            answer,
+            next,
+        },
+        Wrote::Refused(_) => WrittenBytes {
+            used: 0,
+            answer,
+            next,
+        },
+        Wrote::Abandon(_) => WrittenBytes {
+            used: 0,
+            answer,
+            next,
+        },
+        Wrote::Unwritable(_) => WrittenBytes {
+            used: 0,
+            answer,
+            next,
+        },
     }
 }
 
