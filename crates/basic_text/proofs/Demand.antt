@@ -1,8 +1,9 @@
 -- DEMAND 3. A list of calls comes to scans of the accepted chunks and a finish (proofs/Listed.antt), these to the cleaned text of the
--- one reading (`whole`, `exists`, `unique` of text_input), and that is what the plain writer lets through and closes on
--- (proofs/Holds.antt; `passes-plain` of text_output). Assumes nothing.
---     demand3    the theorem
-use Prim.Native.Nat.{ℕ, _≤_}
+-- one reading (`whole`, `exists`, `unique` of text_input), and that is what the writers let through and close on (proofs/Holds.antt;
+-- `passes-plain`, `passes-color`, `passes-crlf` of text_output). Assumes nothing.
+--     demand3          the theorem
+--     passes-others    the queue passes the color and the CRLF writer too
+use Prim.Native.Nat.{ℕ}
 use native.Mathlib.Nat.{zero-add}
 use mathlib.Core.Bool.{true, not}
 use mathlib.Core.List.{List, flatten}
@@ -12,20 +13,19 @@ use Rattle.unicode.specs.Chars.{areChars}
 use Rattle.page.specs.Page.{accepted}
 use Rattle.replace.specs.Table.{any}
 use Rattle.check_char.specs.Check.{kept, clean, all}
+use Rattle.isolate_unassigned.specs.Isolate.{isolateOf}
 use Rattle.text_input.specs.declared.Options.{Options}
 use Rattle.text_input.specs.Scan.{Outcome, fresh}
 use Rattle.text_input.specs.Pieces.{Piece, Reading, cleaned}
 use Rattle.text_input.proofs.Unique.{exists, unique}
 use Rattle.text_input.proofs.Streams.{whole}
 use Rattle.text_output.specs.declared.Mode.the-variants.{Plain}
-use Rattle.text_output.specs.Writer.{Given, Outcome as WriteOutcome, fresh as freshWriter}
-use Rattle.text_output.specs.Write.{placesFor, writeStrOf}
-use Rattle.text_output.specs.Close.{closeOf}
-use Rattle.text_output.specs.Passing.{Passes}
-use Rattle.text_output.proofs.Writable.{writable-of}
+use Rattle.text_output.specs.Passing.{PassesIn}
+use Rattle.text_output.proofs.Writable.{writable, writable-of}
 use Rattle.text_output.proofs.Passing.{startsWell, endsWell, passes-plain}
+use Rattle.text_output.proofs.Modes.{passes-color, passes-crlf}
 use Rattle.basic_text.specs.Calls.{Call, Seen, queueOf, recordAfter, acceptedFrom, acceptedChunks, textOf, FinishedOnce}
-use Rattle.basic_text.specs.Demand.{ExactlyOne, Promise, Demand3}
+use Rattle.basic_text.specs.Demand.{ExactlyOne, Promise, Demand3, Others, PassesOthers}
 use Rattle.basic_text.proofs.Holds.{cleaned-starts, cleaned-ends, whole-clean, whole-chars}
 use Rattle.basic_text.proofs.Listed.{queue-listed, count-listed, chars-listed}
 
@@ -67,12 +67,19 @@ module _ (page : List ℕ) (good : accepted page ≡ true) (options : Options) (
   queue-ends : endsWell true queue ≡ true
   queue-ends = rw queue-is (cleaned-ends page pieces)
 
-  passes-is : all (λ (c : ℕ). not (any kept c)) queue ≡ true →
-      (places : List ℕ) → placesFor (freshWriter Plain) (length queue) ≤ length places →
-      (wrote : WriteOutcome) → wrote ≡ writeStrOf (freshWriter Plain) page queue places →
-      (closed : Given) → closed ≡ closeOf (wrote .given .next) → Passes page queue wrote closed
-  passes-is none places room wrote w closed c =
-      rw (c, w) (passes-plain page good queue places queue-chars (writable-of queue queue-clean none) queue-starts queue-ends room)
+  module _ (none : all (λ (c : ℕ). not (any kept c)) queue ≡ true) where
+    queue-writable : all writable queue ≡ true
+    queue-writable = writable-of queue queue-clean none
+
+    passes-is : PassesIn Plain page queue (isolateOf page queue)
+    passes-is = passes-plain page good queue queue-chars queue-writable queue-starts queue-ends
+
+    others : Others page queue
+    others =
+        record {
+          color = passes-color page good queue queue-chars queue-writable queue-starts queue-ends;
+          crlf = passes-crlf page good queue queue-chars queue-writable queue-starts queue-ends;
+        }
 
   theorem : Promise page options calls queue (recordAfter fresh seen)
   theorem =
@@ -81,3 +88,7 @@ module _ (page : List ℕ) (good : accepted page ≡ true) (options : Options) (
 -- THE THEOREM
 pub demand3 : Demand3
 demand3 page good options calls once seen saw = theorem page good options calls once seen saw
+
+-- BEYOND IT
+pub passes-others : PassesOthers
+passes-others page good options calls once seen saw none = others page good options calls once seen saw none

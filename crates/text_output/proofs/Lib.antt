@@ -10,5 +10,7 @@ pub mod Runs
 pub mod Ends
 pub mod Writable
 pub mod Passing
+pub mod Modes
+pub mod Kept
 pub mod Entries
 pub mod Examples

@@ -1,6 +1,6 @@
 -- A queue of writable characters that begins with a start and ends with 0A passes a fresh plain writer in one write, and the writer
 -- then closes. Idea: isolation puts in 34F alone, which is writable and a start, and none behind a last 0A, which is assigned.
--- Assumes nothing.
+-- proofs/Modes.antt has the other modes. Assumes nothing.
 --     startsWell           the first character is a start, if there is one
 --     endsWell             the last character is 0A; b where there is none
 --     starts-isolated      a run that starts well starts well isolated
@@ -10,9 +10,12 @@
 --     write-runs           a write that 9, 2, 1 and 8 let through is its steps, finished
 --     Handed, hands-out    what stands in the first places is handed out if it starts well
 --     Closes, closes-on-newline    after a newline a close succeeds
---     passes-plain         such a queue passes
+--     isolated-fits        a run isolated fits the room of a write
+--     passes-by            a queue passes in a mode if its steps hand out characters that start well, fit, and end after a newline
+--     passes-as-one        such a queue passes in a mode that isolates it as one run
+--     passes-plain         such a queue passes a plain writer
 use Prim.Native.Nat.{ℕ, _*_, _≤_}
-use mathlib.Core.Path.{_≡_, refl}
+use mathlib.Core.Path.{_≡_, refl, _∙_}
 use mathlib.Core.Bool.{Bool, true, false, and-false}
 use mathlib.Core.List.{List, [], _∷_, _++_}
 use native.Mathlib.Nat.{zero-add}
@@ -37,13 +40,14 @@ use Rattle.isolate_unassigned.proofs.Laws.{length-isolate, isolate-puts-in}
 use Rattle.text_output.specs.declared.Ground.{Ground}
 use Rattle.text_output.specs.declared.Ground.the-variants.{Newline}
 use Rattle.text_output.specs.declared.State.the-variants.{Ground as Grounded}
+use Rattle.text_output.specs.declared.Mode.{Mode}
 use Rattle.text_output.specs.declared.Mode.the-variants.{Plain}
 use Rattle.text_output.specs.declared.TextOutput.{TextOutput}
 use Rattle.text_output.specs.Writer.{Given, fresh, sound, onGround}
 use Rattle.text_output.specs.Step.{goes}
 use Rattle.text_output.specs.Write.{runOf, runIn, handOut, finished, placesFor, writeRefusal, writeStrOf}
 use Rattle.text_output.specs.Close.{closeOf}
-use Rattle.text_output.specs.Passing.{Passes}
+use Rattle.text_output.specs.Passing.{PassesIn}
 use Rattle.text_output.proofs.Writable.{writable, groundOf, groundAfter, isolated-goes}
 
 -- ---- how a run starts and ends
@@ -123,25 +127,33 @@ unfolding closeOf
 closes-on-newline w s n = record { number = rw (s, n) refl; stays = rw (s, n) refl }
 
 -- ---- both
-isolated-fits : (p cs : List ℕ) → length (isolateOf p cs) ≤ 3 * length cs
+pub isolated-fits : (p cs : List ℕ) → length (isolateOf p cs) ≤ 3 * length cs
 isolated-fits p [] = omega (arith, length-isolate p [])
 isolated-fits p (c ∷ cs) = omega (arith, length-isolate p (c ∷ cs))
 
-pub passes-plain : (p : List ℕ) → accepted p ≡ true → (q places : List ℕ) →
-    areChars q ≡ true → all writable q ≡ true → startsWell p q ≡ true → endsWell true q ≡ true →
-    placesFor (fresh Plain) (length q) ≤ length places →
-    Passes p q (writeStrOf (fresh Plain) p q places) (closeOf (writeStrOf (fresh Plain) p q places .given .next))
-passes-plain p a q places c f s l room =
-    let xs = isolateOf p q in
+pub passes-by : (m : Mode) (p q xs : List ℕ) → accepted p ≡ true → areChars q ≡ true → startsWell p xs ≡ true →
+    length xs ≤ 3 * length q → runIn m p (fresh m) q ≡ goes xs (fresh m) → PassesIn m p q xs
+passes-by m p q xs a c s fits go places room wrote w closed d =
     let rest = drop (length xs) places in
-    let runs = write-runs (fresh Plain) p q places refl a c room in
-    let go = lines-go p a q (fresh Plain) refl refl f l in
-    let stored = sets-filled xs places (omega (arith, isolated-fits p q)) in
-    let handed = hands-out p (fresh Plain) xs rest (starts-isolated p a q s) in
-    record {
+    let runs = write-runs (fresh m) p q places refl a c room in
+    let stored = sets-filled xs places (omega arith) in
+    let handed = hands-out p (fresh m) xs rest s in
+    rw (d, w)
+    (record {
       number = rw (runs, go, zero-add, stored) (handed .number);
       characters = rw (runs, go, stored) (take-append-seam xs rest);
       closes = rw (runs, go, zero-add, stored) (closes-on-newline _ (handed .state) (handed .held) .number);
       write-stays = rw (runs, go, zero-add, stored) (handed .stays);
       close-stays = rw (runs, go, zero-add, stored) (closes-on-newline _ (handed .state) (handed .held) .stays);
-    }
+    })
+
+-- a mode whose run is one run, isolated as a whole
+pub passes-as-one : (m : Mode) (p : List ℕ) → accepted p ≡ true → (q : List ℕ) →
+    areChars q ≡ true → all writable q ≡ true → startsWell p q ≡ true → endsWell true q ≡ true →
+    runIn m p (fresh m) q ≡ runOf p (fresh m) q → PassesIn m p q (isolateOf p q)
+passes-as-one m p a q c f s l one =
+    passes-by m p q (isolateOf p q) a c (starts-isolated p a q s) (isolated-fits p q) (one ∙ lines-go p a q (fresh m) refl refl f l)
+
+pub passes-plain : (p : List ℕ) → accepted p ≡ true → (q : List ℕ) →
+    areChars q ≡ true → all writable q ≡ true → startsWell p q ≡ true → endsWell true q ≡ true → PassesIn Plain p q (isolateOf p q)
+passes-plain p a q c f s l = passes-as-one Plain p a q c f s l refl

@@ -1,21 +1,42 @@
--- What it is for a queue to pass a plain writer in one write, and the writer then to close. Document 01, "Agreed between us". Assumes
--- nothing.
-use Prim.Native.Nat.{ℕ}
+-- What it is for a queue to pass a fresh writer in one write, and the writer then to close. Document 01, "Agreed between us" and
+-- "Characters go out". Characters are hexadecimal. Assumes nothing.
+use Prim.Native.Nat.{ℕ, _≤_}
 use mathlib.Core.Bool.{false}
 use mathlib.Core.Path.{_≡_}
-use mathlib.Core.List.{List, [], _∷_}
+use mathlib.Core.List.{List, [], _∷_, _++_}
 use lib.ListN.{length, take}
 use Rattle.isolate_unassigned.specs.Isolate.{isolateOf}
-use Rattle.text_output.specs.Writer.{Given, Outcome}
+use Rattle.text_output.specs.declared.Mode.{Mode}
+use Rattle.text_output.specs.Writer.{Given, Outcome, fresh}
+use Rattle.text_output.specs.Write.{parts, placesFor, writeStrOf}
+use Rattle.text_output.specs.Close.{closeOf}
 
--- of a page, a queue, what its one write returned and left, and what the close returned
-pub record Passes (page queue : List ℕ) (wrote : Outcome) (closed : Given) : Type 0 where
+-- of the characters that go out, what the one write returned and left, and what the close returned
+pub record Passes (out : List ℕ) (wrote : Outcome) (closed : Given) : Type 0 where
   -- "The number handed out
-  pub number : wrote .given .numbers ≡ 0 ∷ length (isolateOf page queue) ∷ []
-  -- and the characters in those places are the queue isolated as one run with the page."
-  pub characters : take (length (isolateOf page queue)) (wrote .places) ≡ isolateOf page queue
+  pub number : wrote .given .numbers ≡ 0 ∷ length out ∷ []
+  -- and the characters in those places are" these: of a plain writer "the queue isolated as one run with the page."
+  pub characters : take (length out) (wrote .places) ≡ out
   -- "the close on the one that the write returned": it succeeds
   pub closes : closed .numbers ≡ []
   -- neither tells the caller to abandon
   pub write-stays : wrote .given .abandon ≡ false
   pub close-stays : closed .abandon ≡ false
+
+-- a queue passes a fresh writer in a mode: "Enough room is at least what a write of that length needs."
+abbrev pub PassesIn : Mode → (page queue out : List ℕ) → Type 0
+PassesIn mode page queue out =
+    (places : List ℕ) → placesFor (fresh mode) (length queue) ≤ length places →
+    (wrote : Outcome) → wrote ≡ writeStrOf (fresh mode) page queue places →
+    (closed : Given) → closed ≡ closeOf (wrote .given .next) → Passes out wrote closed
+
+-- ---- what goes out in CRLF mode
+-- parts isolated, each alone, with 0D 0A between one and the next
+abbrev pub isolatedParts : List ℕ → List (List ℕ) → List ℕ
+isolatedParts page [] = []
+isolatedParts page (part ∷ []) = isolateOf page part
+isolatedParts page (part ∷ next ∷ rest) = isolateOf page part ++ 0x0D ∷ 0x0A ∷ isolatedParts page (next ∷ rest)
+
+-- "In CRLF mode each part between 0A is isolated alone and 0A gives 0D 0A."
+abbrev pub crlfOf : List ℕ → List ℕ → List ℕ
+crlfOf page queue = isolatedParts page (parts queue)
