@@ -30,6 +30,13 @@ pub fn end(value: u32) -> Result<bool, u32> {
     character(value).map(is_basic_text_end)
 }
 
+/// Whether a character is one of those that a queue can hold and a writer refuses: the check asks for another, and the
+/// replacement is the same.
+pub fn is_excepted(value: u32) -> bool {
+    let same = replacement(value).is_ok_and(|out| out.iter().copied().map(u32::from).eq([value]));
+    same && check(value).is_ok_and(|reason| reason.is_some_and(|reason| reason.place == 16))
+}
+
 /// Why a character is refused by 4.
 pub struct Reason {
     /// "the reason as the place in `BasicTextError` counted from 1"

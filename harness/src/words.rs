@@ -50,6 +50,12 @@ pub fn list(values: impl IntoIterator<Item = u32>) -> String {
     or_dash(words.join(","))
 }
 
+/// The numbers of the list after `out=` in an answer; none if it has no such list.
+pub fn listed(answer: &str) -> Vec<u32> {
+    let list = answer.split(' ').find_map(|word| word.strip_prefix("out="));
+    list.into_iter().flat_map(|list| list.split(',')).filter_map(|word| number(word).ok()).collect()
+}
+
 /// A list of characters.
 pub fn characters_list(characters: &[char]) -> String {
     list(characters.iter().copied().map(u32::from))

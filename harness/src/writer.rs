@@ -297,3 +297,72 @@ pub(super) fn limit<Inner: WriteStr + WriteLayered>(
     }
     Ok(())
 }
+
+/// A stream that counts its bytes and keeps none.
+#[derive(Default)]
+pub struct Counter(usize);
+
+impl Write for Counter {
+    fn write(&mut self, buf: &[u8]) -> io::Result<usize> {
+        self.0 += buf.len();
+        Ok(buf.len())
+    }
+
+    fn flush(&mut self) -> io::Result<()> {
+        Ok(())
+    }
+}
+
+impl WriteStr for Counter {
+    fn write_str(&mut self, s: &str) -> io::Result<()> {
+        self.0 += s.len();
+        Ok(())
+    }
+}
+
+impl Bufferable for Counter {
+    fn abandon(&mut self) {}
+}
+
+impl WriteLayered for Counter {
+    fn close(&mut self) -> io::Result<()> {
+        Ok(())
+    }
+}
+
+/// The original's writer alone, for the benchmark. Before each write its record is as opened, but that it expects no start.
+pub struct Timed<S>(TextWriter<S>);
+
+impl<S: WriteStr + WriteLayered + Default> Timed<S> {
+    /// A plain or a CRLF writer.
+    pub fn open(crlf: bool) -> Self {
+        let output = if crlf { TextOutput::with_crlf_compatibility() } else { TextOutput::new() };
+        Self(TextWriter { output, inner: S::default() })
+    }
+
+    /// The buffer keeps its places.
+    fn fresh(&mut self) -> &mut TextWriter<S> {
+        let output = &mut self.0.output;
+        output.buffer.clear();
+        output.expect_starter = false;
+        output.state = State::Ground(Ground::Newline);
+        &mut self.0
+    }
+
+    /// `write_str`: whether it succeeds.
+    pub fn write_str(&mut self, text: &str) -> bool {
+        TextOutput::write_str(self.fresh(), text).is_ok()
+    }
+
+    /// `write`, the same.
+    pub fn write(&mut self, bytes: &[u8]) -> bool {
+        TextOutput::write(self.fresh(), bytes).is_ok()
+    }
+}
+
+impl Timed<Sink> {
+    /// What was handed out since the last call.
+    pub fn handed_out(&mut self) -> Vec<char> {
+        self.0.inner.handed_out()
+    }
+}

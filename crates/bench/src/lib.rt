@@ -1,5 +1,5 @@
-// Sums over lent slices, one for each leaf, and a scan: what the benchmark calls, exported for Rust. They are proved safe and promise
-// nothing more: what they call has its contract, and the benchmark compares the sums with the Rust's.
+// Sums over lent slices, one for each leaf, a scan and writes: what the benchmark calls, exported for Rust. They are proved safe and
+// promise nothing more: what they call has its contract, and the benchmark compares the sums with the Rust's.
 use check_char::Checked;
 use check_char::check_basic_text_char;
 use isolate_unassigned::Answer;
@@ -10,6 +10,8 @@ use replace::replace;
 use text_input::Options;
 use text_input::State;
 use text_input::TextInput;
+use text_output::TextOutput;
+use text_output::Wrote;
 use text_utils::is_basic_text_end;
 use text_utils::is_basic_text_start;
 use unicode::valid_prefix;
@@ -161,4 +163,42 @@ pub extern "C" fn bench_scan(
         Answer::Written(n) => n,
         Answer::Refused(_) => 0,
     }
+}
+
+// A plain or a CRLF writer, as opened but that it expects no start.
+fn writer(crlf: bool) -> TextOutput {
+    let mut w = TextOutput::new();
+    if crlf {
+        w = TextOutput::with_crlf_compatibility();
+    }
+    w.expect_starter = false;
+    w
+}
+
+// How many characters a write hands out; 0 where it is refused.
+fn handed_out(answer: Wrote) -> usize {
+    match answer {
+        Wrote::HandedOut(n) => n,
+        Wrote::Refused(_) => 0,
+        Wrote::Abandon(_) => 0,
+        Wrote::Unwritable(_) => 0,
+    }
+}
+
+// How many places of out a write of characters hands out.
+#[no_mangle]
+pub extern "C" fn bench_write(page: &[u32], crlf: bool, chars: &[u32], out: &mut [u32]) -> usize {
+    let w = writer(crlf);
+    let written = w.write_str(page, chars, out);
+    let answer = written.answer;
+    handed_out(answer)
+}
+
+// The same of a write of bytes to a plain writer.
+#[no_mangle]
+pub extern "C" fn bench_write_bytes(page: &[u32], bytes: &[u8], out: &mut [u32]) -> usize {
+    let w = writer(false);
+    let written = w.write(page, bytes, out);
+    let answer = written.answer;
+    handed_out(answer)
 }

@@ -14,6 +14,7 @@ pub enum Why {
     Room,
     Options,
     Pattern,
+    Held,
 }
 
 // Writes out the bytes that wait.
@@ -137,5 +138,6 @@ pub fn refuse(out: &mut [u8], at: usize, why: Why) -> usize {
         Why::Room => text(out, at, b"? room\n"),
         Why::Options => text(out, at, b"? options\n"),
         Why::Pattern => text(out, at, b"? pattern\n"),
+        Why::Held => text(out, at, b"? held\n"),
     }
 }

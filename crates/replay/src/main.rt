@@ -1,21 +1,23 @@
 // Replays operations of the library: reads them from standard input, one to a line, and writes an
 // answer line for each to standard output. Here are the buffers, the loop over the input, and the
-// way from a line to what answers it: the module `current` for `P`, the crate `leaf_calls` for `L`, and
-// the modules of the crate `stream_calls` for the other letters.
+// way from a line to what answers it: the module `current` for `P`, the crate `leaf_calls` for `L`, the
+// modules of the crate `stream_calls` for `S` and `F`, and the crate `writer_calls` for `W`.
 //
 // A function that answers is lent the buffers: line, the operation; numbers, for the numbers that
-// it gives; page, the current page; places, for what an entry stores; and out, the answers that
-// wait to be written.
+// it gives; page, the current page; places, for what an entry stores; list, the places that live
+// with the writer; and out, the answers that wait to be written.
 mod current;
 
 use libc::STDIN_FILENO;
 use protocol::answer;
 use protocol::answer::Why;
+use protocol::blank;
 use protocol::front;
 use protocol::lines;
 use stream_calls::filling;
 use stream_calls::scanner;
 use text_input::TextInput;
+use writer_calls::Current;
 
 // What lasts from line to line beside the lent buffers.
 pub struct State {
@@ -27,6 +29,8 @@ pub struct State {
     pub out: usize,
     // The current scanner.
     pub scanner: TextInput,
+    // The current writer.
+    pub writer: Current,
 }
 
 impl State {
@@ -36,6 +40,7 @@ impl State {
             line: 0,
             out: 0,
             scanner: TextInput::new(),
+            writer: Current::new(),
         }
     }
 
@@ -65,12 +70,32 @@ fn scan(
     new
 }
 
+// Answers a line whose first letter is W. The shared places are for a copy of the writer's.
+fn write(
+    line: &[u8],
+    numbers: &mut [u32],
+    page: &[u32],
+    places: &mut [u32],
+    list: &mut [u32],
+    out: &mut [u8],
+    state: State,
+) -> State {
+    let before = state.writer;
+    let done = writer_calls::operate(line, numbers, page, places, list, out, state.out, before);
+    let after = done.current;
+    let mut new = state;
+    new.writer = after;
+    new.out = done.out;
+    new
+}
+
 // Answers a line: its first letter says which crate or module has the operation.
 fn operate(
     line: &[u8],
     numbers: &mut [u32],
     page: &mut [u32],
     places: &mut [u32],
+    list: &mut [u32],
     out: &mut [u8],
     state: State,
 ) -> State {
@@ -86,6 +111,9 @@ fn operate(
         new = scan(line, numbers, now, places, out, state);
     } else if first == b'F' {
         new.out = filling::operate(line, numbers, out, state.out);
+    } else if first == b'W' {
+        let now = front::numbers(page, state.page);
+        new = write(line, numbers, now, places, list, out, state);
     } else {
         new = state.refuse(out, Why::Word);
     }
@@ -98,6 +126,7 @@ fn end_line(
     numbers: &mut [u32],
     page: &mut [u32],
     places: &mut [u32],
+    list: &mut [u32],
     out: &mut [u8],
     state: State,
 ) -> State {
@@ -109,64 +138,59 @@ fn end_line(
     }
     if n <= line.len() {
         let whole = front::bytes(line, n);
-        return operate(whole, numbers, page, places, out, new);
+        return operate(whole, numbers, page, places, list, out, new);
     }
     new.refuse(out, Why::Long)
 }
 
-// Takes a byte of the input: it belongs to the line, or ends it.
-fn take_byte(
-    b: u8,
-    line: &mut [u8],
-    numbers: &mut [u32],
-    page: &mut [u32],
-    places: &mut [u32],
-    out: &mut [u8],
-    state: State,
-) -> State {
-    if b == b'\n' {
-        return end_line(line, numbers, page, places, out, state);
-    }
-    let mut new = state;
-    new.line = lines::push(line, state.line, b);
-    new
-}
-
-// Takes a block of the input, and answers each line that ends in it.
+// Takes a block of the input: a byte belongs to the line, or ends it, and then the line is answered.
 fn take_block(
     block: &[u8],
     line: &mut [u8],
     numbers: &mut [u32],
     page: &mut [u32],
     places: &mut [u32],
+    list: &mut [u32],
     out: &mut [u8],
     start: State,
 ) -> State {
     let mut state = start;
     let mut i = 0;
     while i < block.len() {
-        state = take_byte(block[i], line, numbers, page, places, out, state);
+        let b = block[i];
         i += 1;
+        if b == b'\n' {
+            state = end_line(line, numbers, page, places, list, out, state);
+        } else {
+            state.line = lines::push(line, state.line, b);
+        }
     }
     state
 }
 
 // Reads the input to its end, or to a read that fails. A proved loop has to end, and nothing says
 // that the input does: so the loop counts its turns down, from a number that no run uses up.
-fn run(line: &mut [u8], numbers: &mut [u32], page: &mut [u32], places: &mut [u32], out: &mut [u8]) {
+fn run(
+    line: &mut [u8],
+    numbers: &mut [u32],
+    page: &mut [u32],
+    places: &mut [u32],
+    list: &mut [u32],
+    out: &mut [u8],
+) {
     let mut block = io::large_buffer();
     let mut state = State::new();
     let mut turns = u64::MAX;
     while turns > 0 {
+        turns -= 1;
         let got = libc::read(STDIN_FILENO, &mut block);
         let n = io::count(got, &block);
         if n == 0 {
             break;
         }
-        state = take_block(&block[..n], line, numbers, page, places, out, state);
-        turns -= 1;
+        state = take_block(&block[..n], line, numbers, page, places, list, out, state);
     }
-    state = end_line(line, numbers, page, places, out, state);
+    state = end_line(line, numbers, page, places, list, out, state);
     answer::flush(out, state.out);
 }
 
@@ -176,6 +200,15 @@ fn main() {
     let mut numbers = [0u32; 9000];
     let mut page = current::first();
     let mut places = [0u32; 16384];
+    let mut list = [0u32; 16384];
+    blank::make_blank(&mut list);
     let mut out = io::large_buffer();
-    run(&mut line, &mut numbers, &mut page, &mut places, &mut out);
+    run(
+        &mut line,
+        &mut numbers,
+        &mut page,
+        &mut places,
+        &mut list,
+        &mut out,
+    );
 }

@@ -1,19 +1,19 @@
 -- The entries' tests, in their order, and the definitions' cases. Assumes nothing.
 --     before-zero                     where neither 9 nor 2 refuses, the record is sound and the page accepted
 --     refused-before, refused-char, refused-room    a write of characters refused by 9 or 2, by 1, by 8
---     bytes-before, bytes-none, bytes-room, bytes-run    a write of bytes refused by 9 or 2, by 3, by 8, and one that none of them refuses
+--     bytes-refused, let-through, bytes-run    a write of bytes refused by 9, 2, 3 or 8, and one that none of them refuses
+--     end-anywhere                    how a write ends hangs on the first place alone
 --     write-ends                      a write that is let through ends as its steps led
---     place-sound, place-fits, end-fits, same-end    the steps from the record's place on, and where they end
---     abandoned, taken                a record abandoned; the bytes taken beside what a write of characters returns
+--     place-sound, place-fits, same-end    the steps from the record's place on, and where they end
+--     abandoned, taken, refused-anywhere    a record abandoned; the bytes taken beside what a write of characters returns, and a refusal
 use Prim.Native.Nat.{ℕ, _+_, _*_, _≤_, _<_}
 use mathlib.Core.Path.{_≡_, refl, sym, _∙_, ap}
 use mathlib.Core.Bool.{Bool, true, false, cond, not, _&&_}
 use mathlib.Core.List.{List, [], _∷_}
 use native.Mathlib.Omega.{arith}
 use lib.Dec.{eqb, ltb}
-use lib.ListN.{length}
-use lib.Seq.{length-sets}
-use borrow.Author.Tests.{ne-eqb}
+use lib.ListN.{length, getD}
+use borrow.Author.Tests.{ne-eqb, ltb-false}
 use Rattle.unicode.specs.Chars.{areChars}
 use Rattle.unicode.specs.Utf8.{encodes, charsOf}
 use Rattle.unicode.proofs.Kit.{never, by, both}
@@ -28,7 +28,7 @@ use Rattle.text_output.specs.declared.store.Pushed.the-variants.{On, Sto
 use Rattle.text_output.specs.Writer.{Outcome, BytesOutcome, sound, afterNewline, wroteNumbers, writtenOutcome, bytesOutcome, refusedBy, abandonedBy}
 use Rattle.text_output.specs.Write.{runIn, finished, placesFor, writeRefusal, writeStrOf, beginsNone, accepts, usedBy, taking, writeOf}
 use Rattle.text_output.specs.Close.{abandonOf}
-use Rattle.text_output.specs.Inner.{Progress, writerAt, pushed, stored, progress, endOf, refusedBefore}
+use Rattle.text_output.specs.Inner.{Progress, writerAt, pushed, stored, progress, endOf, refusedBefore, bytesRefusal, refusedBytes}
 use Rattle.text_output.proofs.Passing.{write-runs}
 use Rattle.text_output.proofs.Ends.{finished-end, write-fits, write-keeps}
 
@@ -71,7 +71,7 @@ module _ (w : TextOutput) (p cs places : List ℕ) where
 
 -- ---- bytes
 module _ (w : TextOutput) (p bytes places : List ℕ) where
-  pub bytes-before : (n : ℕ) → n ≡ refusedBefore w p → 0 < n →
+  bytes-before : (n : ℕ) → n ≡ refusedBefore w p → 0 < n →
       record { used = 0; outcome = unchanged n w places } ≡ writeOf w p bytes places
   unfolding writeOf
   bytes-before n e h =
@@ -85,7 +85,7 @@ module _ (w : TextOutput) (p bytes places : List ℕ) where
       (λ s. rw (s, ← o, z) refl)
 
   module _ (s : sound w ≡ true) (a : accepted p ≡ true) where
-    pub bytes-none : beginsNone bytes ≡ true →
+    bytes-none : beginsNone bytes ≡ true →
         record { used = 0; outcome = record { given = abandonedBy (3 ∷ []) w; places = places } } ≡ writeOf w p bytes places
     unfolding writeOf
     bytes-none b = rw (s, a, b) refl
@@ -95,15 +95,73 @@ module _ (w : TextOutput) (p bytes places : List ℕ) where
       unfolding writeOf
       bytes-run = rw (s, a, b) refl
 
-      pub bytes-room : ltb (length places) (placesFor w (length (charsOf bytes))) ≡ true →
+      bytes-room : ltb (length places) (placesFor w (length (charsOf bytes))) ≡ true →
           record { used = 0; outcome = unchanged 8 w places } ≡ writeOf w p bytes places
       bytes-room r = rw (← bytes-run, ← refused-room w p (charsOf bytes) places s a (longest bytes .chars) r) refl
 
--- ---- from the record to its place, and back
-progress-places : (x : Pushed) (escape places : List ℕ) → progress x escape places .places ≡ places
-progress-places (On w) escape places = refl
-progress-places (Stopped w stop) escape places = refl
+-- what a write of bytes that none of 9, 2, 3 and 8 refuses has
+pub record LetThrough (w : TextOutput) (p bytes places : List ℕ) : Type 0 where
+  pub is-sound : sound w ≡ true
+  pub page : accepted p ≡ true
+  pub begins : beginsNone bytes ≡ false
+  pub fits : placesFor w (length (charsOf bytes)) ≤ length places
 
+module _ (w : TextOutput) (p bytes places : List ℕ) where
+  abbrev pub refusal : ℕ
+  refusal = bytesRefusal w p (ltb 0 (length bytes)) (length (charsOf bytes)) (length places)
+
+  abbrev short : Bool
+  short = ltb (length places) (placesFor w (length (charsOf bytes)))
+
+  refused-through : sound w ≡ true → accepted p ≡ true → (n : ℕ) → n ≡ cond (beginsNone bytes) 3 (cond short 8 0) → 0 < n →
+      record { used = 0; outcome = record { given = refusedBytes n w; places = places } } ≡ writeOf w p bytes places
+  refused-through s a n e h =
+      by (beginsNone bytes)
+      (λ b. let z : n ≡ 3 = rw b at e in rw z (bytes-none w p bytes places s a b))
+      (λ b.
+      by short
+      (λ t. let z : n ≡ 8 = rw (b, t) at e in rw z (bytes-room w p bytes places s a b t))
+      (λ t. let z : n ≡ 0 = rw (b, t) at e in absurd (omega (arith, z, h))))
+
+  pub bytes-refused : (n : ℕ) → n ≡ refusal → 0 < n →
+      record { used = 0; outcome = record { given = refusedBytes n w; places = places } } ≡ writeOf w p bytes places
+  bytes-refused n e h =
+      by (sound w)
+      (λ s.
+      by (accepted p)
+      (λ a. refused-through s a n (rw (s, a) at e) h)
+      (λ a. let z : n ≡ 2 = rw (s, a) at e in rw z (bytes-before w p bytes places 2 (rw (s, a) refl) (omega arith))))
+      (λ s. let z : n ≡ 9 = rw s at e in rw z (bytes-before w p bytes places 9 (rw s refl) (omega arith)))
+
+  through : sound w ≡ true → accepted p ≡ true → (n : ℕ) → n ≡ cond (beginsNone bytes) 3 (cond short 8 0) → n ≡ 0 → LetThrough w p bytes places
+  through s a n e h =
+      by (beginsNone bytes)
+      (λ b. let z : n ≡ 3 = rw b at e in absurd (omega (arith, z, h)))
+      (λ b.
+      by short
+      (λ t. let z : n ≡ 8 = rw (b, t) at e in absurd (omega (arith, z, h)))
+      (λ t. record { is-sound = s; page = a; begins = b; fits = ltb-false (length places) (placesFor w (length (charsOf bytes))) t }))
+
+  pub let-through : (n : ℕ) → n ≡ refusal → n ≡ 0 → LetThrough w p bytes places
+  let-through n e h =
+      by (sound w)
+      (λ s.
+      by (accepted p)
+      (λ a. through s a n (rw (s, a) at e) h)
+      (λ a. let z : n ≡ 2 = rw (s, a) at e in absurd (omega (arith, z, h))))
+      (λ s. let z : n ≡ 9 = rw s at e in absurd (omega (arith, z, h)))
+
+-- ---- by the first place alone
+module _ (p : List ℕ) (r : Written) (x : Pushed) (escape : List ℕ) (first : ℕ)
+    (e : writtenOutcome r (first ∷ []) ≡ endOf p (progress x escape (first ∷ []))) where
+  pub end-anywhere : (places : List ℕ) → first ≡ getD places 0 0 → writtenOutcome r places ≡ endOf p (progress x escape places)
+  end-anywhere places f = ap (λ (o : Outcome). record { given = o .given; places = places }) e ∙ same x
+    where
+      same : (y : Pushed) → record { given = endOf p (progress y escape (first ∷ [])) .given; places = places } ≡ endOf p (progress y escape places)
+      same (On w) = rw f refl
+      same (Stopped w stop) = refl
+
+-- ---- from the record to its place, and back
 module _ (w : TextOutput) (r : Place) (at-place : writerAt r (w .«escape_sequence») ≡ w) (behind-kept : r .at ≡ w .kept) (p cs : List ℕ) where
   same-run : runIn (r .mode) p (writerAt r (w .«escape_sequence»)) cs ≡ runIn (w .mode) p w cs
   unfolding writerAt
@@ -118,15 +176,6 @@ module _ (w : TextOutput) (r : Place) (at-place : writerAt r (w .«escape_sequen
 
   module _ (x : Pushed) (escape' out' out : List ℕ)
       (led : progress x escape' out' ≡ stored (r .at) out (runIn (r .mode) p (writerAt r (w .«escape_sequence»)) cs)) where
-    -- where the steps led, there are places
-    pub end-fits : r .at + length (pushed (runIn (r .mode) p (writerAt r (w .«escape_sequence»)) cs)) ≤ length out →
-        progress x escape' out' .at ≤ length out'
-    end-fits h =
-        let s = runIn (r .mode) p (writerAt r (w .«escape_sequence»)) cs in
-        let n = ap (λ (y : Progress). y .at) led in
-        let m = ap (λ (y : Progress). length (y .places)) led ∙ length-sets out (r .at) (pushed s) in
-        omega (arith, n, m, h, ap length (progress-places x escape' out'))
-
     pub same-end : endOf p (progress x escape' out') ≡ endOf p (stored (w .kept) out (runIn (w .mode) p w cs))
     same-end = ap (endOf p) led ∙ rw (same-run, behind-kept) refl
 
@@ -139,3 +188,8 @@ pub taken : (x : WrittenBytes) (y : Written) (n : ℕ) (places bytes : List ℕ)
     x .answer ≡ y .answer → x .next ≡ y .next → n ≡ length (encodes (charsOf bytes)) →
     bytesOutcome x places ≡ taking bytes (writtenOutcome y places)
 taken x y n places bytes u a m e = rw (u, a, m, e) refl
+
+pub refused-anywhere : (x : WrittenBytes) (w : TextOutput) (n : ℕ) (places : List ℕ) → x .used ≡ 0 →
+    bytesOutcome x [] .outcome .given ≡ refusedBytes n w →
+    bytesOutcome x places ≡ record { used = 0; outcome = record { given = refusedBytes n w; places = places } }
+refused-anywhere x w n places u e = rw (u, ← e) refl

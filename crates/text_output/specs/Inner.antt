@@ -3,7 +3,7 @@ use Prim.Native.Nat.{ℕ, _+_}
 use mathlib.Core.Bool.{Bool, true, false, cond, not, _&&_, _||_}
 use mathlib.Core.List.{List, [], _∷_}
 use lib.Dec.{eqb, leb, ltb}
-use lib.ListN.{length, getD}
+use lib.ListN.{length}
 use lib.Seq.{sets}
 use Rattle.page.specs.Page.{accepted}
 use Rattle.text_utils.specs.Classes.{basicTextStart, basicTextEnd}
@@ -27,9 +27,9 @@ use Rattle.text_output.specs.declared.store.Stop.{Stop}
 use Rattle.text_output.specs.declared.store.Stop.the-variants.{Reason, Limit}
 use Rattle.text_output.specs.declared.store.Pushed.{Pushed}
 use Rattle.text_output.specs.declared.store.Pushed.the-variants.{On, Stopped}
-use Rattle.text_output.specs.Writer.{Outcome, sound, keeping, abandonedBy}
+use Rattle.text_output.specs.Writer.{Given, Outcome, sound, keeping, refusedBy, abandonedBy}
 use Rattle.text_output.specs.Step.{Stepped, goes, stops, andThen, isColor, stepsOf}
-use Rattle.text_output.specs.Write.{checked, lineEnd, handOut}
+use Rattle.text_output.specs.Write.{checked, lineEnd, handOut, placesFor}
 
 -- ---- a step, as small as it is asked for
 -- outside an escape, of a character that is no 1A
@@ -143,19 +143,26 @@ restOf crlf p w r (c ∷ cs) =
 abbrev pub refusedBefore : TextOutput → List ℕ → ℕ
 refusedBefore w p = cond (not (sound w)) 9 (cond (not (accepted p)) 2 0)
 
--- the first n places are none or begin with a start
-abbrev pub startOrNone : List ℕ → ℕ → List ℕ → Bool
-startOrNone p n places = not (ltb 0 n && not (basicTextStart p (getD places 0 0)))
+-- of n characters to hand out, the first of them given: there is none, or it is a start
+abbrev pub startOrNone : List ℕ → ℕ → ℕ → Bool
+startOrNone p n first = not (ltb 0 n && not (basicTextStart p first))
+
+-- where a step was refused: what was stored stays kept
+abbrev pub keptBy : Progress → Given
+keptBy x = abandonedBy (x .refusal) (keeping (x .writer) (x .writer .«expect_starter») (x .at))
 
 -- how a write ends, by where its steps led
 abbrev pub endOf : List ℕ → Progress → Outcome
-endOf p x =
-    record {
-      given =
-        cond (x .going) (handOut p (x .writer) (x .at) (x .places))
-        (abandonedBy (x .refusal) (keeping (x .writer) (x .writer .«expect_starter») (x .at)));
-      places = x .places;
-    }
+endOf p x = record { given = cond (x .going) (handOut p (x .writer) (x .at) (x .places)) (keptBy x); places = x .places }
+
+-- 9, then 2, then 3 where there are bytes and no character, then 8; 0 where none of them refuses
+abbrev pub bytesRefusal : TextOutput → List ℕ → Bool → ℕ → ℕ → ℕ
+bytesRefusal w p some n room =
+    cond (eqb (refusedBefore w p) 0) (cond (some && eqb n 0) 3 (cond (ltb room (placesFor w n)) 8 0)) (refusedBefore w p)
+
+-- what a write of bytes refused by one of these comes to
+abbrev pub refusedBytes : ℕ → TextOutput → Given
+refusedBytes n w = cond (eqb n 3) (abandonedBy (3 ∷ []) w) (refusedBy n w)
 
 -- whether an answer hands out
 abbrev pub handsOut : Wrote → Bool

@@ -11,13 +11,13 @@ use super::store::Stop;
 use text_utils::is_basic_text_start;
 ghost use mathlib.Core.Path.{_≡_};
 ghost use mathlib.Core.Bool.{true};
-ghost use Prim.Native.Nat.{_≤_};
-ghost use lib.ListN.{length};
+ghost use mathlib.Core.List.{[], _∷_};
+ghost use lib.ListN.{getD};
 ghost use Rattle.page.specs.Page.{accepted};
 ghost use Rattle.text_output.specs.Writer.{wroteNumbers, wroteTells, writtenOutcome};
 ghost use Rattle.text_output.specs.Write.{accepts};
 ghost use Rattle.text_output.specs.declared.store.Pushed.the-variants.{On, Stopped};
-ghost use Rattle.text_output.specs.Inner.{writerAt, stopNumbers, progress, handsOut, startOrNone, endOf};
+ghost use Rattle.text_output.specs.Inner.{writerAt, stopNumbers, progress, handsOut, startOrNone, keptBy, endOf};
 
 // A writer's record at a place of its buffer, as a write begins: behind the kept characters.
 pub fn place_of(w: TextOutput) -> Place
@@ -36,30 +36,36 @@ pub fn place_of(w: TextOutput) -> Place
     }
 }
 
-// Whether the characters to hand out are none or begin with a start. Inner: asks for an accepted page, and that they are lent.
-fn start_or_none(page: &[u32], n: usize, out: &[u32]) -> bool
-    requires page { ⌜ accepted (now page) ≡ true ⌝ }
-    requires lent { ⌜ n ≤ length (now out) ⌝ }
-    ensures { λ r. ⌜ r ≡ startOrNone (now (page .entry)) n (now (out .entry)) ⌝ }
+// The first place, 0 where there is none.
+pub fn first_of(out: &[u32]) -> u32
+    ensures { λ r. ⌜ r ≡ getD (now (out .entry)) 0 0 ⌝ }
+{
+    if out.len() == 0 {
+        return 0;
+    }
+    out[0]
+}
+
+// Whether n characters to hand out, the first of them given, are none or begin with a start. Inner: asks for an accepted page.
+fn start_or_none(page: &[u32], n: usize, first: u32) -> bool
+    requires { ⌜ accepted (now page) ≡ true ⌝ }
+    ensures { λ r. ⌜ r ≡ startOrNone (now (page .entry)) n first ⌝ }
 {
     if n == 0 {
         return true;
     }
-    is_basic_text_start(page, out[0])
+    is_basic_text_start(page, first)
 }
 
 // The characters up to the place are handed out, or refused by 5 and kept. Inner, as `start_or_none`.
-fn hand_out(page: &[u32], w: Place, escape: [u32; 64], out: &[u32]) -> Written
-    requires page { ⌜ accepted (now page) ≡ true ⌝ }
-    requires lent { ⌜ w .at ≤ length (now out) ⌝ }
-    ensures outcome { λ r. ⌜
-        writtenOutcome r (now (out .entry)) ≡ endOf (now (page .entry)) (progress (On w) escape (now (out .entry)))
-        ⌝ }
+fn hand_out(page: &[u32], w: Place, escape: [u32; 64], first: u32) -> Written
+    requires { ⌜ accepted (now page) ≡ true ⌝ }
+    ensures outcome { λ r. ⌜ writtenOutcome r (first ∷ []) ≡ endOf (now (page .entry)) (progress (On w) escape (first ∷ [])) ⌝ }
     ensures told { λ r. ⌜ handsOut (r .answer) ≡ accepts (wroteNumbers (r .answer)) ⌝ }
 {
     let mode = w.mode;
     let state = w.state;
-    if w.expect_starter & !start_or_none(page, w.at, out) {
+    if w.expect_starter & !start_or_none(page, w.at, first) {
         Written {
             answer: Wrote::Abandon(5),
             next: TextOutput {
@@ -99,10 +105,8 @@ fn refused(stop: Stop) -> Wrote
 }
 
 // A refused step: the characters before it stay kept.
-fn keep(page: &[u32], w: Place, stop: Stop, escape: [u32; 64], out: &[u32]) -> Written
-    ensures outcome { λ r. ⌜
-        writtenOutcome r (now (out .entry)) ≡ endOf (now (page .entry)) (progress (Stopped w stop) escape (now (out .entry)))
-        ⌝ }
+fn keep(w: Place, stop: Stop, escape: [u32; 64]) -> Written
+    ensures outcome { λ r. ⌜ writtenOutcome r [] .given ≡ keptBy (progress (Stopped w stop) escape []) ⌝ }
     ensures told { λ r. ⌜ handsOut (r .answer) ≡ accepts (wroteNumbers (r .answer)) ⌝ }
 {
     let mode = w.mode;
@@ -119,17 +123,14 @@ fn keep(page: &[u32], w: Place, stop: Stop, escape: [u32; 64], out: &[u32]) -> W
     }
 }
 
-// How a write ends, by where its steps led. Inner, as `start_or_none`.
-pub fn end(page: &[u32], pushed: Pushed, escape: [u32; 64], out: &[u32]) -> Written
-    requires page { ⌜ accepted (now page) ≡ true ⌝ }
-    requires lent { ⌜ progress pushed escape (now out) .at ≤ length (now out) ⌝ }
-    ensures outcome { λ r. ⌜
-        writtenOutcome r (now (out .entry)) ≡ endOf (now (page .entry)) (progress pushed escape (now (out .entry)))
-        ⌝ }
+// How a write ends, by where its steps led and the first place after them. Inner, as `start_or_none`.
+pub fn end_write(page: &[u32], pushed: Pushed, escape: [u32; 64], first: u32) -> Written
+    requires { ⌜ accepted (now page) ≡ true ⌝ }
+    ensures outcome { λ r. ⌜ writtenOutcome r (first ∷ []) ≡ endOf (now (page .entry)) (progress pushed escape (first ∷ [])) ⌝ }
     ensures told { λ r. ⌜ handsOut (r .answer) ≡ accepts (wroteNumbers (r .answer)) ⌝ }
 {
     match pushed {
-        Pushed::On(w) => hand_out(page, w, escape, out),
-        Pushed::Stopped(w, stop) => keep(page, w, stop, escape, out),
+        Pushed::On(w) => hand_out(page, w, escape, first),
+        Pushed::Stopped(w, stop) => keep(w, stop, escape),
     }
 }

@@ -11,9 +11,19 @@ mod run;
 mod step;
 mod store;
 
+// What a write into other places shares with one into numbers. Inner.
+pub use end::end_write;
+pub use end::place_of;
+pub use run::Turned;
+pub use run::finish;
+pub use run::turn;
+pub use step::is_crlf;
+pub use store::Place;
+pub use store::Pushed;
+pub use store::Stop;
+
 use check_char::BasicTextError;
-use end::end;
-use end::place_of;
+use end::first_of;
 use page::is_accepted;
 use run::run;
 use run::run_bytes;
@@ -29,7 +39,7 @@ ghost use Rattle.text_output.specs.declared.State.the-variants.{Ground a
 ghost use Rattle.text_output.specs.Writer.{fresh, heldIn, sound, wroteNumbers, writtenOutcome, bytesOutcome, answeredGiven, abandonedBy};
 ghost use Rattle.text_output.specs.Write.{placesFor, writeStrOf, accepts, writeOf};
 ghost use Rattle.text_output.specs.Close.{expecting, flushIn, flushOf, closeIn, closeOf, abandonOf};
-ghost use Rattle.text_output.specs.Inner.{refusedBefore, handsOut};
+ghost use Rattle.text_output.specs.Inner.{refusedBefore, bytesRefusal, refusedBytes, handsOut};
 
 // What stands last outside an escape.
 pub enum Ground {
@@ -362,7 +372,46 @@ impl TextOutput {
         }
         let mut escape = self.escape_sequence;
         let pushed = run(page, place_of(self), chars, &mut escape, out);
-        end(page, pushed, escape, out)
+        let first = first_of(out);
+        end_write(page, pushed, escape, first)
+    }
+
+    // 9, then 2, then 3 where there are bytes and no character begins, then 8; 0 where none of them refuses. Total: `some` says whether
+    // there are bytes, n is how many characters they begin with.
+    pub fn bytes_refusal(self, page: &[u32], some: bool, n: usize, room: usize) -> u32
+        ensures { λ r. ⌜ r ≡ bytesRefusal self (now (page .entry)) some n room ⌝ }
+    {
+        let before = self.refused_before(page);
+        if before != 0 {
+            return before;
+        }
+        if some & (n == 0) {
+            return 3;
+        }
+        if self.is_short(n, room) {
+            return 8;
+        }
+        0
+    }
+
+    // A write of bytes refused by one of these. Total.
+    pub fn refused_bytes(self, n: u32) -> WrittenBytes
+        ensures used { λ r. ⌜ r .used ≡ 0 ⌝ }
+        ensures given { λ r. ⌜ bytesOutcome r [] .outcome .given ≡ refusedBytes n self ⌝ }
+    {
+        if n == 3 {
+            WrittenBytes {
+                used: 0,
+                answer: Wrote::Abandon(3),
+                next: self.abandon(),
+            }
+        } else {
+            WrittenBytes {
+                used: 0,
+                answer: Wrote::Refused(n),
+                next: self,
+            }
+        }
     }
 
     // Writes the longest valid prefix of bytes, and answers how many it takes. Total: refuses 9, then 2, then 3 where no character
@@ -372,38 +421,21 @@ impl TextOutput {
             bytesOutcome r (now (out .exit)) ≡ writeOf self (now (page .entry)) (now (bytes .entry)) (now (out .entry))
             ⌝ }
     {
-        let before = self.refused_before(page);
-        if before != 0 {
-            return WrittenBytes {
-                used: 0,
-                answer: Wrote::Refused(before),
-                next: self,
-            };
-        }
         let prefix = valid_prefix(bytes);
-        if (0 < bytes.len()) & (prefix.chars == 0) {
-            return WrittenBytes {
-                used: 0,
-                answer: Wrote::Abandon(3),
-                next: self.abandon(),
-            };
-        }
-        if self.is_short(prefix.chars, out.len()) {
-            return WrittenBytes {
-                used: 0,
-                answer: Wrote::Refused(8),
-                next: self,
-            };
+        let no = self.bytes_refusal(page, 0 < bytes.len(), prefix.chars, out.len());
+        if no != 0 {
+            return self.refused_bytes(no);
         }
         let mut escape = self.escape_sequence;
         let pushed = run_bytes(page, place_of(self), bytes, &mut escape, out);
-        let written = end(page, pushed, escape, out);
+        let first = first_of(out);
+        let written = end_write(page, pushed, escape, first);
         taking(prefix.bytes, written)
     }
 }
 
 // A write of bytes that takes so many, where it is accepted. Inner: asks that nothing else says 0.
-fn taking(n: usize, written: Written) -> WrittenBytes
+pub fn taking(n: usize, written: Written) -> WrittenBytes
     requires { ⌜ handsOut (written .answer) ≡ accepts (wroteNumbers (written .answer)) ⌝ }
     ensures { λ r. ⌜ r .used ≡ cond (accepts (wroteNumbers (written .answer))) n 0 ⌝ }
     ensures { λ r. ⌜ (r .answer ≡ written .answer) × (r .next ≡ written .next) ⌝ }

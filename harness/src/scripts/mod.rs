@@ -2,6 +2,7 @@
 
 pub mod alphabet;
 pub mod cases;
+pub mod demand;
 pub mod every;
 pub mod fill;
 pub mod isolate;
@@ -17,14 +18,27 @@ use crate::page::real_numbers;
 use crate::random::Random;
 
 /// The kinds of script.
-pub const KINDS: [&str; 11] =
-    ["cases", "pages", "utf8", "leaves", "every", "isolate", "scan", "fill", "write-cases", "write", "sample"];
+pub const KINDS: [&str; 12] = [
+    "cases",
+    "pages",
+    "utf8",
+    "leaves",
+    "every",
+    "isolate",
+    "scan",
+    "fill",
+    "write-cases",
+    "write",
+    "demand",
+    "sample",
+];
 
 /// The lines of a script.
 pub type Lines = Box<dyn Iterator<Item = String>>;
 
 /// `count` operations of a kind; none if there is no such kind. `cases` and `write-cases` are whole whatever the count, in
-/// `every` the count is a step, one character in so many, and in `sample` it is that of the random ones.
+/// `every` the count is a step, one character in so many, and in `sample` it is that of the random ones. `demand` ends
+/// with a whole text, past the count.
 pub fn script(kind: &str, seed: u64, count: usize) -> Option<Lines> {
     if kind == "every" {
         return Some(Box::new(every::script(seed, count)));
@@ -46,6 +60,7 @@ fn drawn(kind: &str, seed: u64, count: usize) -> Option<Vec<String>> {
         "fill" => fill::script(random, count),
         "write-cases" => write_cases::script(),
         "write" => write::script(random, count),
+        "demand" => demand::script(random, count),
         "sample" => sample::script(random, count),
         _ => return None,
     };

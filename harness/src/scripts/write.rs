@@ -10,6 +10,10 @@ use crate::replay::Oracle;
 const GOOD: [u32; 17] =
     [0x61, 0x61, 0x0A, 0x0A, 0x20, 0xE9, 0x301, 0x200D, 0x600, 0x378, 0x34F, 0x09, 0x6D, 0x903, 0xE000, 0x1F3FB, 0x7F];
 
+/// One refused character for each reason of a 4, but for a broken escape.
+const REFUSED: [u32; 14] =
+    [0x7F, 0x206A, 0x1B, 0x202A, 0xFFF9, 0xE0001, 0x2028, 0xFFFE, 0x2029, 0xFEFF, 0xFFFC, 0x17B4, 0x17D8, 0xFB03];
+
 /// What the script knows of the writer.
 #[derive(Default)]
 struct Known {
@@ -65,7 +69,7 @@ fn call(random: &mut Random, known: &Known) -> String {
     }
     match random.below(60) {
         0..=2 => format!("W new {}", random.pick(&["plain", "crlf", "bom", "color", "color"])),
-        3 => page_line(&alphabet::page(random)),
+        3 => page_line(&page(random)),
         4..=10 => "W flush".to_owned(),
         11..=13 => "W close".to_owned(),
         14 => "W abandon".to_owned(),
@@ -76,26 +80,38 @@ fn call(random: &mut Random, known: &Known) -> String {
     }
 }
 
+/// A page; now and then one by which 1A, that stands for a refused character, is unassigned.
+fn page(random: &mut Random) -> Vec<u32> {
+    if random.once_in(5) {
+        return vec![0, 2, 0, 0x1B, 0x19, random.pick(&[0x377, 0x10FFFF])];
+    }
+    alphabet::page(random)
+}
+
 /// A claim that no state can have, or that only another state can.
 fn claim(random: &mut Random) -> String {
     format!("W held {:x}", random.pick(&[0, 1, 2, 64, 65, 66, 0x5555_5556, 0x8000_0000, 0xFFFF_FFFFu32]))
 }
 
 fn characters(random: &mut Random, known: &Known) -> String {
-    let text = text(random, known);
+    let mut text = text(random, known);
+    if random.once_in(60) {
+        text.push(random.pick(&alphabet::NO_CHARACTERS));
+    }
     let room = alphabet::room(random, known.needed + 3 * text.len());
     operation("W chars", std::iter::once(room).chain(text))
 }
 
 fn text(random: &mut Random, known: &Known) -> Vec<u32> {
     let escapes = if known.color { 5 } else { 1 };
-    match random.below(9 + escapes) {
+    match random.below(10 + escapes) {
         0 => alphabet::run(random, 8),
         1 => vec![0x0A],
         2 => [plain(random), vec![0x0A]].concat(),
         3 => [plain(random), vec![random.pick(&[0x200D, 0x600, 0x6DD, 0x110BD])]].concat(),
-        4..=8 => plain(random),
-        9 => [plain(random), escape(random), plain(random)].concat(),
+        4 => [plain(random), vec![random.pick(&REFUSED)], plain(random)].concat(),
+        5..=9 => plain(random),
+        10 => [plain(random), escape(random), plain(random)].concat(),
         _ => escape(random),
     }
 }

@@ -10,7 +10,7 @@ pub fn script() -> Vec<String> {
     lines
 }
 
-const WRITES: [Case; 12] = [
+const WRITES: [Case; 16] = [
     (
         "modes",
         &[
@@ -79,6 +79,51 @@ const WRITES: [Case; 12] = [
             "W bytes 3 c3 a9 a",
             "W bytes 0",
             "W bytes 3 a ff",
+        ],
+    ),
+    (
+        "bytes that are cut off",
+        &["W new plain", "W bytes 3 e2 82", "W bytes 3 61 e2 82", "W bytes 3 a f0 9f 8f", "W bytes 3 f0 9f 8f bb"],
+    ),
+    (
+        "bytes with an escape in progress",
+        &[
+            "W new color",
+            "W bytes 6 1b 5b",
+            "W bytes 1 ff",
+            "W bytes 6 1b 5b",
+            "W bytes 4 31",
+            "W bytes 5 31 e2 82",
+            "W bytes 9 6d c3",
+            "W bytes 3 a ff",
+        ],
+    ),
+    (
+        "bytes behind a kept 34F",
+        &["W new plain", "W bytes 6 cd b8 7f", "W bytes 5 61 ff", "W bytes 6 ff", "W bytes 6 61 ff", "W places 5"],
+    ),
+    (
+        "each reason",
+        &[
+            "W new plain",
+            "W chars 3 7f",
+            "W chars 3 206a",
+            "W chars 3 1b",
+            "W chars 3 202a",
+            "W chars 3 fff9",
+            "W chars 3 e0001",
+            "W chars 3 2028",
+            "W chars 3 fffe",
+            "W chars 3 2029",
+            "W chars 3 feff",
+            "W chars 3 fffc",
+            "W chars 3 17b4",
+            "W chars 3 17d8",
+            "W chars 3 fb03",
+            "W chars 3 a",
+            "W new color",
+            "W chars 9 1b 5b 1b",
+            "W chars 9 1b 5c",
         ],
     ),
     (

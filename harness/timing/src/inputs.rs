@@ -1,5 +1,6 @@
 //! The characters that are timed, equal in every run.
 
+use harness::check_basic_text_char;
 use harness::random::Random;
 
 /// So many characters are timed at once.
@@ -45,6 +46,15 @@ pub fn scan_inputs() -> [Input; 5] {
     let list: Vec<char> = AWKWARD.chars().collect();
     let awkward = ("awkward", characters(|| random.pick(&list)));
     [ascii, latin, awkward, cjk, devanagari]
+}
+
+/// The inputs of the writer: those of the leaves, without the characters that a plain writer refuses, which only the random
+/// one has.
+pub fn write_inputs() -> [Input; 5] {
+    inputs().map(|(name, mut text)| {
+        text.retain(|c| *c != '\u{1B}' && check_basic_text_char(*c).is_ok());
+        (name, text)
+    })
 }
 
 /// Words of a text in random order, with a line end now and then.

@@ -1,8 +1,9 @@
-//! The leaves, and the scanner, each with its two sides.
+//! The leaves, the scanner and the writer, each with its two sides.
 
 use crate::inputs::CHUNK;
 use crate::{ours, rust};
 use harness::text_input::scanner::Scanner;
+use harness::text_output::writer::{Counter, Sink, Timed};
 use std::cell::RefCell;
 use std::collections::VecDeque;
 
@@ -10,7 +11,7 @@ use std::collections::VecDeque;
 pub struct Chunk {
     chars: Vec<char>,
     numbers: Vec<u32>,
-    bytes: Vec<u8>,
+    text: String,
     /// The original's scanner with the text loaded, so that a round has no copy of it to make.
     scanner: RefCell<Scanner>,
 }
@@ -23,7 +24,7 @@ impl Chunk {
         Self {
             chars: chars.to_vec(),
             numbers: chars.iter().map(|c| u32::from(*c)).collect(),
-            bytes: text.into_bytes(),
+            text,
             scanner: RefCell::new(scanner),
         }
     }
@@ -34,8 +35,11 @@ pub struct Lent {
     pub page: Vec<u32>,
     pub ours: Vec<u32>,
     pub rust: Vec<u32>,
-    scanned: Vec<u32>,
+    /// Room for a scan and for a write.
+    long: Vec<u32>,
     queue: VecDeque<char>,
+    plain: Timed<Counter>,
+    crlf: Timed<Counter>,
 }
 
 impl Lent {
@@ -45,8 +49,10 @@ impl Lent {
             page,
             ours: places.clone(),
             rust: places,
-            scanned: vec![0; 3 * CHUNK + 1],
+            long: vec![0; 3 * CHUNK + 1],
             queue: VecDeque::with_capacity(4 * CHUNK),
+            plain: Timed::open(false),
+            crlf: Timed::open(true),
         }
     }
 }
@@ -89,15 +95,15 @@ pub const LEAVES: [Leaf; 6] = [
     },
     Leaf {
         name: "valid_prefix",
-        ours: |_, chunk| ours::prefix(&chunk.bytes),
-        rust: |_, chunk| rust::prefix(&chunk.bytes),
+        ours: |_, chunk| ours::prefix(chunk.text.as_bytes()),
+        rust: |_, chunk| rust::prefix(chunk.text.as_bytes()),
     },
 ];
 
 /// The scanner, from a record as after one character, without options.
 pub const SCAN: Leaf = Leaf {
     name: "scan",
-    ours: |lent, chunk| ours::scan(&lent.page, &chunk.numbers, &mut lent.scanned),
+    ours: |lent, chunk| ours::scan(&lent.page, &chunk.numbers, &mut lent.long),
     rust: |_, chunk| chunk.scanner.borrow_mut().clean(),
 };
 
@@ -106,7 +112,44 @@ pub fn scans_agree(lent: &mut Lent, chunk: &Chunk) {
     let (ours, rust) = ((SCAN.ours)(lent, chunk), (SCAN.rust)(lent, chunk));
     assert_eq!(ours, rust, "scan of {:?}", chunk.chars);
     let scanner = chunk.scanner.borrow();
-    assert!(scanner.tail(rust).map(u32::from).eq(lent.scanned[..ours].iter().copied()), "scan of {:?}", chunk.chars);
+    assert!(scanner.tail(rust).map(u32::from).eq(lent.long[..ours].iter().copied()), "scan of {:?}", chunk.chars);
+}
+
+/// The writer, which expects no start: of characters, plain and CRLF, and of bytes. A side says whether the write succeeds.
+pub const WRITES: [Leaf; 3] = [
+    Leaf {
+        name: "write_str",
+        ours: |lent, chunk| usize::from(ours::write_str(&lent.page, false, &chunk.numbers, &mut lent.long) > 0),
+        rust: |lent, chunk| usize::from(lent.plain.write_str(&chunk.text)),
+    },
+    Leaf {
+        name: "write_str crlf",
+        ours: |lent, chunk| usize::from(ours::write_str(&lent.page, true, &chunk.numbers, &mut lent.long) > 0),
+        rust: |lent, chunk| usize::from(lent.crlf.write_str(&chunk.text)),
+    },
+    Leaf {
+        name: "write",
+        ours: |lent, chunk| usize::from(ours::write(&lent.page, chunk.text.as_bytes(), &mut lent.long) > 0),
+        rust: |lent, chunk| usize::from(lent.plain.write(chunk.text.as_bytes())),
+    },
+];
+
+/// Ends the program where the two sides of a write differ in what they hand out: nothing where it is refused.
+pub fn writes_agree(lent: &mut Lent, chunk: &Chunk) {
+    let same = |ours: &[u32], mut rust: Timed<Sink>, name: &str| {
+        let rust = rust.handed_out();
+        assert!(rust.iter().copied().map(u32::from).eq(ours.iter().copied()), "{name} of {:?}", chunk.chars);
+    };
+    for (crlf, name) in [(false, "write_str"), (true, "write_str crlf")] {
+        let count = ours::write_str(&lent.page, crlf, &chunk.numbers, &mut lent.long);
+        let mut rust = Timed::open(crlf);
+        rust.write_str(&chunk.text);
+        same(&lent.long[..count], rust, name);
+    }
+    let count = ours::write(&lent.page, chunk.text.as_bytes(), &mut lent.long);
+    let mut rust = Timed::open(false);
+    rust.write(chunk.text.as_bytes());
+    same(&lent.long[..count], rust, "write");
 }
 
 /// The leaf on the page: it takes no characters.

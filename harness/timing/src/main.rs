@@ -1,4 +1,4 @@
-//! Times each leaf and the scanner of the port beside the Rust's, in one run. First both sides must agree on every character.
+//! Times each leaf, the scanner and the writer of the port beside the Rust's, in one run. First both sides must agree on every character.
 
 #![deny(unsafe_code)]
 
@@ -8,8 +8,8 @@ mod leaves;
 mod ours;
 mod rust;
 
-use inputs::{inputs, scan_inputs, CHUNK};
-use leaves::{scans_agree, Chunk, Leaf, Lent, Side, LEAVES, PAGE, SCAN};
+use inputs::{inputs, scan_inputs, write_inputs, CHUNK};
+use leaves::{scans_agree, writes_agree, Chunk, Leaf, Lent, Side, LEAVES, PAGE, SCAN, WRITES};
 use std::hint::black_box;
 use std::time::Instant;
 
@@ -34,6 +34,13 @@ fn main() {
         chunks.iter().for_each(|chunk| scans_agree(&mut lent, chunk));
         row(&SCAN, input, least(&SCAN, &mut lent, &chunks, text.len()));
     }
+    for (input, text) in write_inputs() {
+        let chunks: Vec<Chunk> = text.chunks(CHUNK).map(Chunk::new).collect();
+        chunks.iter().for_each(|chunk| writes_agree(&mut lent, chunk));
+        for leaf in &WRITES {
+            row(leaf, input, least(leaf, &mut lent, &chunks, text.len()));
+        }
+    }
     println!("ns per number of the page");
     let numbers = lent.page.len();
     row(&PAGE, "real page", least(&PAGE, &mut lent, &[Chunk::new(&[])], numbers));
@@ -49,6 +56,7 @@ fn agree(lent: &mut Lent) -> usize {
         }
         assert_eq!(lent.ours[..3], lent.rust[..3], "isolate of {c:?}");
         scans_agree(lent, &chunk);
+        writes_agree(lent, &chunk);
         count += 1;
     }
     count

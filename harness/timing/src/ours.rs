@@ -33,6 +33,26 @@ mod linked {
             queue: *mut u32,
             room: usize,
         ) -> usize;
+        /// Writes what a plain or a CRLF writer that expects no start hands out for the characters to the places from `out`
+        /// on, which nothing else has: how many, or 0 for a refusal.
+        pub fn bench_write(
+            page: *const u32,
+            size: usize,
+            crlf: bool,
+            chars: *const u32,
+            count: usize,
+            out: *mut u32,
+            room: usize,
+        ) -> usize;
+        /// The same for bytes, by a plain writer.
+        pub fn bench_write_bytes(
+            page: *const u32,
+            size: usize,
+            bytes: *const u8,
+            count: usize,
+            out: *mut u32,
+            room: usize,
+        ) -> usize;
         /// Whether the page is accepted.
         pub fn bench_page(page: *const u32, size: usize) -> bool;
         /// How many bytes the longest valid prefix has.
@@ -75,6 +95,18 @@ pub fn scan(page: &[u32], chunk: &[u32], queue: &mut [u32]) -> usize {
             queue.as_mut_ptr(),
             queue.len(),
         )
+    }
+}
+
+pub fn write_str(page: &[u32], crlf: bool, chars: &[u32], out: &mut [u32]) -> usize {
+    unsafe {
+        linked::bench_write(page.as_ptr(), page.len(), crlf, chars.as_ptr(), chars.len(), out.as_mut_ptr(), out.len())
+    }
+}
+
+pub fn write(page: &[u32], bytes: &[u8], out: &mut [u32]) -> usize {
+    unsafe {
+        linked::bench_write_bytes(page.as_ptr(), page.len(), bytes.as_ptr(), bytes.len(), out.as_mut_ptr(), out.len())
     }
 }
 

@@ -1,7 +1,5 @@
 -- `hand_out` meets its contract: its test is that of `handOut`.
-use mathlib.Core.Path.{refl, sym, _∙_, ap}
-use mathlib.Core.Bool.{Bool, not, _&&_}
-use denote.Ref.{now}
+use mathlib.Core.Path.{refl}
 use Rattle.text_output.specs.Inner.{writerAt}
 use Rattle.text_output.proofs.Ends.{not-twice}
 use borrow.Author.Needs.{needs}
@@ -11,22 +9,20 @@ use Rattle.text_output.proofs.end.hand_out.Reads as reads
 use Rattle.text_output.proofs.end.hand_out.Lts as lts
 use Rattle.text_output.proofs.end.start_or_none.Reads as start-or-none-reads
 
--- src/end.rt:62:28
+-- src/end.rt:68:28
 start-or-none-requires : tie.Need-start-or-none-requires
 start-or-none-requires c κs = search needs
 
--- src/end.rt:52:1
+-- src/end.rt:61:1
 returns : tie.Need-returns
 returns c =
-    let s = c .before .before .start-or-none .ensures in
-    let t = rw (s, not-twice) at (c .if1 .taken) in
+    let t = rw (c .before .before .start-or-none .ensures, not-twice) at (c .if1 .taken) in
     (unfold writerAt in rw t refl, refl)
 
--- src/end.rt:52:1
+-- src/end.rt:61:1
 returns-2 : tie.Need-returns-2
 returns-2 c =
-    let s = c .before .before .start-or-none .ensures in
-    let t = rw (s, not-twice) at (c .if1 .left) in
+    let t = rw (c .before .before .start-or-none .ensures, not-twice) at (c .if1 .left) in
     (unfold writerAt in rw t refl, refl)
 
 pub hand-out-spec : {M : Type 1} → statement M

@@ -8,11 +8,11 @@ use Rattle.text_output.proofs.end.keep.Reads as reads
 use Rattle.text_output.proofs.end.keep.Lts as lts
 use Rattle.text_output.proofs.end.refused.Reads as refused-reads
 
--- src/end.rt:110:17
+-- src/end.rt:114:17
 refused-requires : tie.Need-refused-requires
 refused-requires c κs = search needs
 
--- src/end.rt:102:1
+-- src/end.rt:108:1
 returns : tie.Need-returns
 returns c =
     let r = c .refused .ensures in

@@ -1,0 +1,74 @@
+//! Holds answers to a script of the kind `demand` to demand 3: `promise SCRIPT ANSWERS`. Where the queue holds none of the
+//! excepted characters, the queue is the same for both cuts of the text, its one write hands out what isolation of the
+//! queue as one run gives, and the close succeeds. Prints how many queues passed, or the first that does not.
+
+use harness::leaves::is_excepted;
+use harness::words::listed;
+use std::fs::read_to_string;
+use std::io;
+use std::process::ExitCode;
+
+fn main() -> io::Result<ExitCode> {
+    let files: Vec<String> = std::env::args().skip(1).collect();
+    let [script, answers] = files.as_slice() else {
+        eprintln!("usage: promise SCRIPT ANSWERS");
+        return Ok(ExitCode::from(2));
+    };
+    let (script, answers) = (read_to_string(script)?, read_to_string(answers)?);
+    let mut seen = Seen::default();
+    for (operation, answer) in script.lines().zip(answers.lines()) {
+        if let Err(broken) = seen.learn(operation, answer) {
+            println!("BROKEN PROMISE: {broken}\n  queue:   {:x?}\n  written: {}", seen.queue, seen.written);
+            return Ok(ExitCode::FAILURE);
+        }
+    }
+    println!("{} queues pass, {} hold an excepted character", seen.passed, seen.excepted);
+    Ok(ExitCode::SUCCESS)
+}
+
+/// What is seen of a text so far, and the counts.
+#[derive(Default)]
+struct Seen {
+    /// The queue of the current cut, and that of the cut before it.
+    queue: Vec<u32>,
+    other: Vec<u32>,
+    /// The answers of the write and of the close.
+    written: String,
+    closed: String,
+    passed: usize,
+    excepted: usize,
+}
+
+impl Seen {
+    fn learn(&mut self, operation: &str, answer: &str) -> Result<(), &'static str> {
+        let words: Vec<&str> = operation.split(' ').take(2).collect();
+        match words.as_slice() {
+            ["S", "new"] => self.other = std::mem::take(&mut self.queue),
+            ["S", _] => self.queue.extend(listed(answer)),
+            ["W", "chars"] => self.written = answer.to_owned(),
+            ["W", "close"] => self.closed = answer.to_owned(),
+            ["L", "isolate"] => return self.judge(answer),
+            _ => {}
+        }
+        Ok(())
+    }
+
+    fn judge(&mut self, isolated: &str) -> Result<(), &'static str> {
+        if self.queue != self.other {
+            return Err("another cut gives another queue");
+        }
+        if self.queue.iter().any(|c| is_excepted(*c)) {
+            self.excepted += 1;
+            return Ok(());
+        }
+        let isolated = isolated.replacen("n=", "k=", 1);
+        if !isolated.starts_with("ok") || !self.written.starts_with(&isolated) {
+            return Err("the write does not hand out the queue isolated as one run");
+        }
+        if !self.closed.starts_with("ok") {
+            return Err("the close is refused");
+        }
+        self.passed += 1;
+        Ok(())
+    }
+}
