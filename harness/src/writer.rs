@@ -69,6 +69,20 @@ pub enum Mode {
     Color,
 }
 
+/// A writer's record, the characters of an escape as text.
+pub struct Record {
+    /// BOM is as plain once it is open.
+    pub mode: Mode,
+    pub expect_starter: bool,
+    /// As the replay protocol counts the states.
+    pub state: u32,
+    pub kept: Vec<char>,
+    /// How many characters of an escape are held.
+    pub held: usize,
+    /// Those characters; outside an escape those of the last one, with what ended it.
+    pub escape_sequence: Vec<char>,
+}
+
 /// A refusal: its number, the reason of a 4, and whether the caller is told to abandon.
 pub struct Refusal {
     pub number: u32,
@@ -98,6 +112,44 @@ impl Writer {
         let opening = inner.handed_out();
         let writer = TextWriter { output, inner };
         (Self { writer, claim: None, places: vec![BLANK; MOST_PLACES] }, opening)
+    }
+
+    /// Takes a record in the place of its own. A state over 4 is as 0; `claim` says a held count that it cannot have.
+    pub fn resume(&mut self, record: &Record) {
+        let output = &mut self.writer.output;
+        output.crlf_compatibility = matches!(record.mode, Mode::Crlf);
+        output.ansi_color = matches!(record.mode, Mode::Color);
+        output.expect_starter = record.expect_starter;
+        output.state = match record.state {
+            1 => State::Ground(Ground::ZwjOrPrepend),
+            2 => State::Ground(Ground::Other),
+            3 => State::Esc,
+            4 => State::Csi,
+            _ => State::Ground(Ground::Newline),
+        };
+        output.buffer.clear();
+        output.buffer.extend(&record.kept);
+        output.escape_sequence.clear();
+        output.escape_sequence.extend(&record.escape_sequence);
+        self.claim = None;
+    }
+
+    /// The record as it stands, without a claim.
+    pub fn snapshot(&self) -> Record {
+        let output = &self.writer.output;
+        let mode = match (output.crlf_compatibility, output.ansi_color) {
+            (true, _) => Mode::Crlf,
+            (_, true) => Mode::Color,
+            _ => Mode::Plain,
+        };
+        Record {
+            mode,
+            expect_starter: output.expect_starter,
+            state: self.state(),
+            kept: self.kept(),
+            held: self.held(),
+            escape_sequence: output.escape_sequence.chars().collect(),
+        }
     }
 
     /// Writes characters. "Order: 9, 2, 1 .., 8, then 4 or 6 as met, then 5."

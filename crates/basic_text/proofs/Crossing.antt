@@ -1,6 +1,7 @@
--- What goes over to the caller comes back as it was: the two tables for states and flags agree, and so do reading and writing
+-- What goes over to the caller comes back as it was: the two tables for states, modes and flags agree, and so do reading and writing
 -- numbers. So a stream's records are handed on from call to call unchanged. Assumes nothing.
 --     record-back     a record as numbers, read again
+--     writer-back     the writer's record as numbers, read again
 --     numbers-back    numbers as bytes, read again
 use Prim.Native.Nat.{ℕ, _+_, _*_, _<_, _/_, _%_}
 use mathlib.Core.Path.{_≡_, refl}
@@ -10,7 +11,14 @@ use native.Mathlib.Omega.{arith}
 use Rattle.text_input.specs.declared.State.{State}
 use Rattle.text_input.specs.declared.State.the-variants.{Ground, Cr, Ff, Esc, CsiStart, Csi, Osc, Linux}
 use Rattle.text_input.specs.declared.TextInput.{TextInput}
+use Rattle.text_output.specs.declared.Mode.{Mode}
+use Rattle.text_output.specs.declared.Mode.the-variants.{Plain, Crlf, Color}
+use Rattle.text_output.specs.declared.Ground.the-variants.{Newline, ZwjOrPrepend, Other}
+use Rattle.text_output.specs.declared.State.{State as WriterState}
+use Rattle.text_output.specs.declared.State.the-variants.{Ground as Grounded, Esc as InEsc, Csi as InCsi}
+use Rattle.text_output.specs.declared.TextOutput.{TextOutput}
 use Rattle.basic_text.specs.Exports.{number, numbers, bytesOf, flag, flagNumber, stateOf, stateNumber, recordOf, recordNumbers}
+use Rattle.basic_text.specs.Exports.{modeOf, modeNumber, writerStateOf, writerStateNumber, writerOf, writerNumbers}
 
 flag-back : (b : Bool) → flag (flagNumber b) ≡ b
 flag-back true = refl
@@ -37,6 +45,29 @@ record-back r =
       count = r .count;
     }
 
+mode-back : (m : Mode) → modeOf (modeNumber m) ≡ m
+mode-back Plain = refl
+mode-back Crlf = refl
+mode-back Color = refl
+
+writer-state-back : (s : WriterState) → writerStateOf (writerStateNumber s) ≡ s
+writer-state-back (Grounded Newline) = refl
+writer-state-back (Grounded ZwjOrPrepend) = refl
+writer-state-back (Grounded Other) = refl
+writer-state-back InEsc = refl
+writer-state-back InCsi = refl
+
+pub writer-back : (w : TextOutput) → writerOf (writerNumbers w) ≡ w
+writer-back w =
+    λ i. record {
+      mode = mode-back (w .mode) i;
+      «expect_starter» = flag-back (w .«expect_starter») i;
+      state = writer-state-back (w .state) i;
+      kept = w .kept;
+      held = w .held;
+      «escape_sequence» = w .«escape_sequence»;
+    }
+
 -- every number has 32 bits
 abbrev pub Wide : List ℕ → Type 0
 Wide [] = Unit {0}
@@ -51,7 +82,7 @@ digits n x y z hx hy hz h =
     let d : z % 256 ≡ z = omega arith in
     omega (arith, a, b, c, d)
 
-number-back : (n : ℕ) → n < 4294967296 → number (n % 256) (n / 256 % 256) (n / 65536 % 256) (n / 16777216 % 256) ≡ n
+pub number-back : (n : ℕ) → n < 4294967296 → number (n % 256) (n / 256 % 256) (n / 65536 % 256) (n / 16777216 % 256) ≡ n
 number-back n h = digits n (n / 256) (n / 65536) (n / 16777216) refl (omega arith) (omega arith) (omega arith)
 
 pub numbers-back : (ns : List ℕ) → Wide ns → numbers (bytesOf ns) ≡ ns

@@ -1,7 +1,7 @@
 -- A page's length. Idea: an accepted page has at most `longest` numbers, so that one with more may be taken for the empty one.
 -- Assumes nothing.
 --     right-page, long-page, odd-page    what `fitting` makes of the pages that `read_page` tells apart
---     scan-read                          a scan by the page that was read, among other places, is the scan by the page
+--     scan-read, write-read              a scan, a write by the page that was read, among other places, is that by the page
 use Prim.Native.Nat.{ℕ, _-_, _/_, _%_, _≤_, _<_}
 use mathlib.Core.Path.{_≡_, refl}
 use mathlib.Core.Bool.{false}
@@ -17,6 +17,9 @@ use Rattle.page.proofs.PageLaws.{facts-of-accepted}
 use Rattle.text_input.specs.declared.Options.{Options}
 use Rattle.text_input.specs.declared.TextInput.{TextInput}
 use Rattle.text_input.specs.Scan.{refusalOf, scanOf}
+use Rattle.text_output.specs.declared.TextOutput.{TextOutput}
+use Rattle.text_output.specs.Writer.{sound}
+use Rattle.text_output.specs.Write.{writeRefusal, writeStrOf, writeOf}
 use Rattle.basic_text.specs.Exports.{numbers, pageOf}
 use Rattle.basic_text.specs.Inner.{longest, fitting}
 use Rattle.basic_text.proofs.Laws.{length-numbers}
@@ -64,3 +67,20 @@ scan-fitting p r o chunk queue =
 pub scan-read : (r s : TextInput) (o u : Options) (p all : List ℕ) (n : ℕ) (chunk queue : List ℕ) → s ≡ r → u ≡ o →
     take n all ≡ fitting p → scanOf s (take (n - 0) (drop 0 all)) u chunk queue ≡ scanOf r p o chunk queue
 scan-read r s o u p all n chunk queue e f g = rw (sub-zero, e, f, g) (scan-fitting p r o chunk queue)
+
+-- ---- a write
+-- by two pages that are not accepted a write is refused alike
+write-wrong : (p q : List ℕ) → accepted p ≡ false → accepted q ≡ false → (w : TextOutput) (bytes queue : List ℕ) →
+    writeOf w p bytes queue ≡ writeOf w q bytes queue
+unfolding writeOf writeStrOf writeRefusal
+write-wrong p q e f w bytes queue = by (sound w) (λ s. simp (s, e, f)) (λ s. simp (s, e, f))
+
+write-fitting : (p : List ℕ) (w : TextOutput) (bytes queue : List ℕ) → writeOf w (fitting p) bytes queue ≡ writeOf w p bytes queue
+unfolding fitting
+write-fitting p w bytes queue =
+    by (leb (length p) longest) (λ e. rw e)
+    (λ e. rw e (write-wrong [] p empty-wrong (too-long p (leb-false _ _ e)) w bytes queue))
+
+pub write-read : (w v : TextOutput) (p all : List ℕ) (n : ℕ) (bytes queue : List ℕ) → v ≡ w → take n all ≡ fitting p →
+    writeOf v (take (n - 0) (drop 0 all)) bytes queue ≡ writeOf w p bytes queue
+write-read w v p all n bytes queue e g = rw (sub-zero, e, g) (write-fitting p w bytes queue)

@@ -1,10 +1,10 @@
 -- What the exported calls read and write: bytes as 32-bit numbers, and a record, options and an answer as plain numbers. The calls
--- themselves are those of `text_input`, specs/Scan.antt. Assumes nothing.
+-- themselves are those of `text_input`, specs/Scan.antt, and of `text_output`, specs/Write.antt. Assumes nothing.
 use Prim.Native.Nat.{ℕ, _+_, _*_, _/_, _%_}
 use mathlib.Core.Bool.{Bool, true, false, cond, not}
 use mathlib.Core.List.{List, [], _∷_, _++_}
 use lib.Dec.{eqb}
-use lib.ListN.{length, drop}
+use lib.ListN.{length, drop, getD}
 use Rattle.isolate_unassigned.specs.declared.Answer.{Answer}
 use Rattle.isolate_unassigned.specs.declared.Answer.the-variants.{Written, Refused}
 use Rattle.text_input.specs.declared.State.{State}
@@ -12,8 +12,18 @@ use Rattle.text_input.specs.declared.State.the-variants.{Ground, Cr, Ff, Esc, C
 use Rattle.text_input.specs.declared.Options.{Options}
 use Rattle.text_input.specs.declared.TextInput.{TextInput}
 use Rattle.text_input.specs.declared.Scanned.{Scanned}
+use Rattle.text_output.specs.declared.Mode.{Mode}
+use Rattle.text_output.specs.declared.Mode.the-variants.{Plain, Crlf, Color}
+use Rattle.text_output.specs.declared.Ground.the-variants.{Newline, ZwjOrPrepend, Other}
+use Rattle.text_output.specs.declared.State.{State as WriterState}
+use Rattle.text_output.specs.declared.State.the-variants.{Ground as Grounded, Esc as InEsc, Csi as InCsi}
+use Rattle.text_output.specs.declared.TextOutput.{TextOutput}
+use Rattle.text_output.specs.Writer.{BytesOutcome}
+use Rattle.text_output.specs.Write.{accepts}
 use Rattle.basic_text.specs.declared.Record.{Record}
 use Rattle.basic_text.specs.declared.Reply.{Reply}
+use Rattle.basic_text.specs.declared.Writer.{Writer}
+use Rattle.basic_text.specs.declared.WriteReply.{WriteReply}
 
 -- ---- bytes as numbers
 -- four bytes as one number, the low byte first
@@ -108,3 +118,79 @@ writtenBy (Refused k) = 0
 
 abbrev pub replyOf : Scanned → Reply
 replyOf s = record { refused = refusedBy (s .answer); written = writtenBy (s .answer); «record» = recordNumbers (s .next) }
+
+-- ---- the writer
+-- the modes by number; a number past the last is read as 0
+abbrev pub modeOf : ℕ → Mode
+modeOf n = cond (eqb n 1) Crlf (cond (eqb n 2) Color Plain)
+
+-- a mode's number
+abbrev pub modeNumber : Mode → ℕ
+modeNumber Plain = 0
+modeNumber Crlf = 1
+modeNumber Color = 2
+
+-- the states by number: 0 after a newline, 1 after a non-end, 2 after another, 3 and 4 in an escape; past the last is read as 0
+abbrev pub writerStateOf : ℕ → WriterState
+writerStateOf n =
+    cond (eqb n 1) (Grounded ZwjOrPrepend)
+    (cond (eqb n 2) (Grounded Other)
+    (cond (eqb n 3) InEsc
+    (cond (eqb n 4) InCsi (Grounded Newline))))
+
+-- a state's number
+abbrev pub writerStateNumber : WriterState → ℕ
+writerStateNumber (Grounded Newline) = 0
+writerStateNumber (Grounded ZwjOrPrepend) = 1
+writerStateNumber (Grounded Other) = 2
+writerStateNumber InEsc = 3
+writerStateNumber InCsi = 4
+
+-- the writer's record from its numbers
+abbrev pub writerOf : Writer → TextOutput
+writerOf w =
+    record {
+      mode = modeOf (w .mode);
+      «expect_starter» = flag (w .«expect_starter»);
+      state = writerStateOf (w .state);
+      kept = w .kept;
+      held = w .held;
+      «escape_sequence» = w .«escape_sequence»;
+    }
+
+-- the writer's record as numbers
+abbrev pub writerNumbers : TextOutput → Writer
+writerNumbers w =
+    record {
+      mode = modeNumber (w .mode);
+      «expect_starter» = flagNumber (w .«expect_starter»);
+      state = writerStateNumber (w .state);
+      kept = w .kept;
+      held = w .held;
+      «escape_sequence» = w .«escape_sequence»;
+    }
+
+-- how many characters an accepted write hands out, by its answer's numbers; else 0
+abbrev pub handedOut : List ℕ → ℕ
+handedOut ns = cond (accepts ns) (getD ns 1 0) 0
+
+-- the number of a refused write's reason, by its answer's numbers; else 0
+abbrev pub reasonIn : List ℕ → ℕ
+reasonIn ns = cond (accepts ns) 0 (getD ns 1 0)
+
+-- a byte write's answer: behind the reason's number its values, each 0 where there is none
+abbrev pub writeReplyOf : BytesOutcome → WriteReply
+writeReplyOf o =
+    record {
+      refused = getD (o .outcome .given .numbers) 0 0;
+      abandon = flagNumber (o .outcome .given .abandon);
+      reason = reasonIn (o .outcome .given .numbers);
+      character = getD (o .outcome .given .numbers) 2 0;
+      count = getD (o .outcome .given .numbers) 3 0;
+      first = getD (o .outcome .given .numbers) 4 0;
+      second = getD (o .outcome .given .numbers) 5 0;
+      third = getD (o .outcome .given .numbers) 6 0;
+      used = o .used;
+      written = handedOut (o .outcome .given .numbers);
+      writer = writerNumbers (o .outcome .given .next);
+    }

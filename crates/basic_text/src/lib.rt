@@ -1,12 +1,15 @@
-// The library that Rust links: the scanner's calls, on lent bytes. Bytes are read as 32-bit numbers, a record goes in and comes back
-// as plain numbers, and nothing is allocated or kept between calls. The crate also has demand 3, the promise on the scanner and the
-// writer as a whole: specs/Demand.antt, proofs/Demand.antt.
-//     numbers.rt    bytes as numbers
-//     plain.rt      a record, options and an answer as numbers
-//     run.rt        a run of characters
+// The library that Rust links: the scanner's calls and the write of bytes, on lent bytes. Bytes are read as 32-bit numbers, a record
+// goes in and comes back as plain numbers, and nothing is allocated or kept between calls.
+//     numbers.rt        bytes as numbers
+//     plain.rt          a record, options and an answer as numbers
+//     plain_writer.rt   the writer's record and its answer as numbers
+//     run.rt            a run of characters
+//     writing.rt        a write of bytes
 mod numbers;
 mod plain;
+mod plain_writer;
 mod run;
+mod writing;
 
 use isolate_unassigned::Answer;
 use numbers::hold_chars;
@@ -17,17 +20,21 @@ use plain::flag_of;
 use plain::options_of;
 use plain::record_of;
 use plain::reply_of;
+use plain_writer::write_reply_of;
+use plain_writer::writer_of;
 use run::run;
 use run::skips;
 use text_input::Options;
 use text_input::Scanned;
 use text_input::TextInput;
 use text_input::refusal;
+use writing::write;
 ghost use mathlib.Core.Path.{_≡_};
 ghost use Prim.Native.Nat.{_≤_};
 ghost use lib.ListN.{length, take};
 ghost use Rattle.text_input.specs.Scan.{scanOf, finishOf};
-ghost use Rattle.basic_text.specs.Exports.{numbers, pageOf, withNumbers, flag, recordOf, optionsOf, replyOf};
+ghost use Rattle.text_output.specs.Write.{writeOf};
+ghost use Rattle.basic_text.specs.Exports.{numbers, pageOf, withNumbers, flag, recordOf, optionsOf, replyOf, writerOf, writeReplyOf};
 ghost use Rattle.basic_text.specs.Inner.{longest, fitting};
 
 // The scanner's record. A state's number past the last is read as 0, and a flag is false at 0 alone.
@@ -46,6 +53,35 @@ pub struct Reply {
     pub refused: u32,
     pub written: usize,
     pub record: Record,
+}
+
+// The writer's record. A mode's or a state's number past the last is read as 0, and a flag is false at 0 alone.
+#[repr(C)]
+pub struct Writer {
+    pub mode: u32,
+    pub expect_starter: u32,
+    pub state: u32,
+    pub kept: usize,
+    pub held: usize,
+    pub escape_sequence: [u32; 64],
+}
+
+// The number of a refusal, or 0; 1 where the caller is to abandon the stream; of a 4 the reason's number, the character that it names,
+// and its replacements, how many and which, each 0 where there is none; how many bytes were taken; how many characters are handed
+// out; the record after the call.
+#[repr(C)]
+pub struct WriteReply {
+    pub refused: u32,
+    pub abandon: u32,
+    pub reason: u32,
+    pub character: u32,
+    pub count: u32,
+    pub first: u32,
+    pub second: u32,
+    pub third: u32,
+    pub used: usize,
+    pub written: usize,
+    pub writer: Writer,
 }
 
 // The numbers of the longest page that is accepted: 2 + 2 × (2,048 + 2,048).
@@ -165,4 +201,30 @@ pub extern "C" fn basic_text_finish(record: Record, eof: u32, queue: &mut [u8]) 
     let end = flag_of(eof);
     let finished = finish(r, end, queue);
     reply_of(finished)
+}
+
+// Bytes are written. Page, bytes and queue are lent as bytes; the kept characters stand in the queue's first places, those of the write
+// go behind them, and the first places are handed out.
+#[no_mangle]
+pub extern "C" fn basic_text_write(
+    writer: Writer,
+    page: &[u8],
+    bytes: &[u8],
+    queue: &mut [u8],
+) -> WriteReply
+    ensures reply { λ r. ⌜
+        r ≡ writeReplyOf (writeOf (writerOf writer) (pageOf (now (page .entry))) (now (bytes .entry)) (numbers (now (queue .entry))))
+        ⌝ }
+    ensures places { λ r. ⌜
+        now (queue .exit)
+        ≡ withNumbers
+        (writeOf (writerOf writer) (pageOf (now (page .entry))) (now (bytes .entry)) (numbers (now (queue .entry))) .outcome .places)
+        (now (queue .entry))
+        ⌝ }
+{
+    let mut all = [0u32; LONGEST];
+    let n = read_page(page, &mut all);
+    let w = writer_of(writer);
+    let written = write(w, &all[0..n], bytes, queue);
+    write_reply_of(written)
 }

@@ -63,7 +63,7 @@ pub fn options_of(n: u32) -> Options
     }
 }
 
-fn flag_number(b: bool) -> u32
+pub fn flag_number(b: bool) -> u32
     ensures { λ r. ⌜ r ≡ flagNumber b ⌝ }
 {
     if b { 1 } else { 0 }

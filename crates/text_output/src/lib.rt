@@ -1,45 +1,15 @@
 // The writer: ports text_output.rs. Its record is a value, and the characters that it hands out stand in a lent slice: those kept
 // since the last success in the first places, and behind them those of the write.
 // The stream that the Rust writer holds is the caller's: a success says how many characters are handed out, and a refusal whether
-// the caller is to abandon the stream.
-//     step.rt    one character in one state: `state_machine_char` without its stores
-//     store.rt   the stores of a step
-//     run.rt     the steps of a write
-//     end.rt     how a write ends
-mod end;
-mod run;
-mod step;
-mod store;
-
-// What a write into other places shares with one into numbers. Inner.
-pub use end::end_write;
-pub use end::place_of;
-pub use run::Turned;
-pub use run::finish;
-pub use run::turn;
-pub use step::is_crlf;
-pub use store::Place;
-pub use store::Pushed;
-pub use store::Stop;
-
+// the caller is to abandon the stream. The two writes are the crate `text_write`.
 use check_char::BasicTextError;
-use end::first_of;
-use page::is_accepted;
-use run::run;
-use run::run_bytes;
 use unicode::BOM;
-use unicode::are_chars;
-use unicode::valid_prefix;
 ghost use mathlib.Core.Path.{_≡_};
-ghost use mathlib.Core.Bool.{cond};
 ghost use mathlib.Core.List.{[], _∷_};
-ghost use lib.Dec.{ltb};
 ghost use Rattle.text_output.specs.declared.Mode.the-variants.{Plain, Crlf, Color};
 ghost use Rattle.text_output.specs.declared.State.the-variants.{Ground as Grounded};
-ghost use Rattle.text_output.specs.Writer.{fresh, heldIn, sound, wroteNumbers, writtenOutcome, bytesOutcome, answeredGiven, abandonedBy};
-ghost use Rattle.text_output.specs.Write.{placesFor, writeStrOf, accepts, writeOf};
+ghost use Rattle.text_output.specs.Writer.{fresh, heldIn, sound, answeredGiven, abandonedBy};
 ghost use Rattle.text_output.specs.Close.{expecting, flushIn, flushOf, closeIn, closeOf, abandonOf};
-ghost use Rattle.text_output.specs.Inner.{refusedBefore, bytesRefusal, refusedBytes, handsOut};
 
 // What stands last outside an escape.
 pub enum Ground {
@@ -181,8 +151,8 @@ impl TextOutput {
         TextOutput::in_mode(Mode::Color)
     }
 
-    // Whether the record claims a held count that its state can have, and no more than 64: what 9 lets pass.
-    fn is_sound(self) -> bool
+    // Whether the record claims a held count that its state can have, and no more than 64: what 9 lets pass. Inner; total.
+    pub fn is_sound(self) -> bool
         ensures { λ r. ⌜ r ≡ sound self ⌝ }
     {
         let state = self.state;
@@ -314,155 +284,6 @@ impl TextOutput {
             held: 0,
             escape_sequence,
         }
-    }
-
-    // Whether so many places are too few for a write of n characters, kept + held + 3 × n. Total: no sum is made, since a forged
-    // record's would wrap.
-    fn is_short(self, n: usize, room: usize) -> bool
-        ensures { λ r. ⌜ r ≡ ltb room (placesFor self n) ⌝ }
-    {
-        if room < self.kept {
-            return true;
-        }
-        let behind = room - self.kept;
-        if behind < self.held {
-            return true;
-        }
-        (behind - self.held) / 3 < n
-    }
-
-    // 9, then 2; 0 where neither refuses.
-    fn refused_before(self, page: &[u32]) -> u32
-        ensures { λ r. ⌜ r ≡ refusedBefore self (now (page .entry)) ⌝ }
-    {
-        if !self.is_sound() {
-            return 9;
-        }
-        if is_accepted(page) {
-            return 0;
-        }
-        2
-    }
-
-    // Writes characters: they are stored behind the kept ones, and all are handed out. Total: refuses 9, then 2, then 1, then 8, and
-    // then leaves record and places; then 4 with its reason or 6, or 5 at the end.
-    pub fn write_str(self, page: &[u32], chars: &[u32], out: &mut [u32]) -> Written
-        ensures { λ r. ⌜
-            writtenOutcome r (now (out .exit)) ≡ writeStrOf self (now (page .entry)) (now (chars .entry)) (now (out .entry))
-            ⌝ }
-    {
-        let before = self.refused_before(page);
-        if before != 0 {
-            return Written {
-                answer: Wrote::Refused(before),
-                next: self,
-            };
-        }
-        if !are_chars(chars) {
-            return Written {
-                answer: Wrote::Refused(1),
-                next: self,
-            };
-        }
-        if self.is_short(chars.len(), out.len()) {
-            return Written {
-                answer: Wrote::Refused(8),
-                next: self,
-            };
-        }
-        let mut escape = self.escape_sequence;
-        let pushed = run(page, place_of(self), chars, &mut escape, out);
-        let first = first_of(out);
-        end_write(page, pushed, escape, first)
-    }
-
-    // 9, then 2, then 3 where there are bytes and no character begins, then 8; 0 where none of them refuses. Total: `some` says whether
-    // there are bytes, n is how many characters they begin with.
-    pub fn bytes_refusal(self, page: &[u32], some: bool, n: usize, room: usize) -> u32
-        ensures { λ r. ⌜ r ≡ bytesRefusal self (now (page .entry)) some n room ⌝ }
-    {
-        let before = self.refused_before(page);
-        if before != 0 {
-            return before;
-        }
-        if some & (n == 0) {
-            return 3;
-        }
-        if self.is_short(n, room) {
-            return 8;
-        }
-        0
-    }
-
-    // A write of bytes refused by one of these. Total.
-    pub fn refused_bytes(self, n: u32) -> WrittenBytes
-        ensures used { λ r. ⌜ r .used ≡ 0 ⌝ }
-        ensures given { λ r. ⌜ bytesOutcome r [] .outcome .given ≡ refusedBytes n self ⌝ }
-    {
-        if n == 3 {
-            WrittenBytes {
-                used: 0,
-                answer: Wrote::Abandon(3),
-                next: self.abandon(),
-            }
-        } else {
-            WrittenBytes {
-                used: 0,
-                answer: Wrote::Refused(n),
-                next: self,
-            }
-        }
-    }
-
-    // Writes the longest valid prefix of bytes, and answers how many it takes. Total: refuses 9, then 2, then 3 where no character
-    // begins, then 8, and then as `write_str`.
-    pub fn write(self, page: &[u32], bytes: &[u8], out: &mut [u32]) -> WrittenBytes
-        ensures { λ r. ⌜
-            bytesOutcome r (now (out .exit)) ≡ writeOf self (now (page .entry)) (now (bytes .entry)) (now (out .entry))
-            ⌝ }
-    {
-        let prefix = valid_prefix(bytes);
-        let no = self.bytes_refusal(page, 0 < bytes.len(), prefix.chars, out.len());
-        if no != 0 {
-            return self.refused_bytes(no);
-        }
-        let mut escape = self.escape_sequence;
-        let pushed = run_bytes(page, place_of(self), bytes, &mut escape, out);
-        let first = first_of(out);
-        let written = end_write(page, pushed, escape, first);
-        taking(prefix.bytes, written)
-    }
-}
-
-// A write of bytes that takes so many, where it is accepted. Inner: asks that nothing else says 0.
-pub fn taking(n: usize, written: Written) -> WrittenBytes
-    requires { ⌜ handsOut (written .answer) ≡ accepts (wroteNumbers (written .answer)) ⌝ }
-    ensures { λ r. ⌜ r .used ≡ cond (accepts (wroteNumbers (written .answer))) n 0 ⌝ }
-    ensures { λ r. ⌜ (r .answer ≡ written .answer) × (r .next ≡ written .next) ⌝ }
-{
-    let answer = written.answer;
-    let next = written.next;
-    match answer {
-        Wrote::HandedOut(_) => WrittenBytes {
-            used: n,
-            answer,
-            next,
-        },
-        Wrote::Refused(_) => WrittenBytes {
-            used: 0,
-            answer,
-            next,
-        },
-        Wrote::Abandon(_) => WrittenBytes {
-            used: 0,
-            answer,
-            next,
-        },
-        Wrote::Unwritable(_) => WrittenBytes {
-            used: 0,
-            answer,
-            next,
-        },
     }
 }
 

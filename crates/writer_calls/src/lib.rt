@@ -188,7 +188,7 @@ fn write_chars(
     writer: TextOutput,
 ) -> Written {
     places::copy(lent, before);
-    writer.write_str(page, chars, lent)
+    text_write::write_str(writer, page, chars, lent)
 }
 
 // The same of bytes.
@@ -200,7 +200,7 @@ fn write_bytes(
     writer: TextOutput,
 ) -> WrittenBytes {
     places::copy(lent, before);
-    writer.write(page, bytes, lent)
+    text_write::write(writer, page, bytes, lent)
 }
 
 // `W chars ROOM c c ..`, with the numbers given.

@@ -13,18 +13,21 @@ const LONG: usize = 200;
 
 /// One call with each page by name, and with some bytes more or fewer.
 pub fn named_pages(sides: &mut Sides) -> Result<(), String> {
-    for (_, page) in pages::named() {
-        let page = bytes(&page);
-        for more in 0..=9 {
-            sides.take_page([&page[..], &[0; 9][..more]].concat());
-            sides.call(Record::FRESH, Call::Scan(0, &[0x301], &[]), 4 * 4)?;
-        }
-        for fewer in 1..=9 {
-            sides.take_page(page[..page.len().saturating_sub(fewer)].to_vec());
-            sides.call(Record::FRESH, Call::Scan(0, &[0x301], &[]), 4 * 4)?;
-        }
+    for page in around_named() {
+        sides.take_page(page);
+        sides.call(Record::FRESH, Call::Scan(0, &[0x301], &[]), 4 * 4)?;
     }
     Ok(())
+}
+
+/// Each page by name as bytes, as it stands and with 1 to 9 more or fewer.
+pub fn around_named() -> impl Iterator<Item = Vec<u8>> {
+    pages::named().into_iter().flat_map(|(_, page)| {
+        let page = bytes(&page);
+        let more = (0..=9).map(|more| [&page[..], &[0; 9][..more]].concat());
+        let fewer = (1..=9).map(|fewer| page[..page.len().saturating_sub(fewer)].to_vec());
+        more.chain(fewer).collect::<Vec<_>>()
+    })
 }
 
 pub fn random_lists(sides: &mut Sides, seed: u64, count: u64) -> Result<(), String> {
@@ -44,14 +47,10 @@ pub fn random_lists(sides: &mut Sides, seed: u64, count: u64) -> Result<(), Stri
     Ok(())
 }
 
-/// Another page, now and then with some bytes more or less. A wrong one is there for one call.
+/// Another page. A wrong one is there for one call.
 fn another_page(sides: &mut Sides, random: &mut Random, record: Record, right: &mut Vec<u8>) -> Outcome {
-    let mut page = bytes(&page(random));
-    match random.below(8) {
-        0 => page.extend(&[0; 7][random.below(7)..]),
-        1 => page.truncate(page.len().saturating_sub(random.below(7) + 1)),
-        _ => {}
-    }
+    let page = page(random);
+    let page = lent(random, &page);
     if sides.take_page(page.clone()) {
         *right = page;
         return Ok(record);
@@ -59,6 +58,17 @@ fn another_page(sides: &mut Sides, random: &mut Random, record: Record, right: &
     let after = scan(sides, random, record);
     sides.take_page(right.clone());
     after
+}
+
+/// A page as bytes, now and then with some more or fewer.
+pub fn lent(random: &mut Random, page: &[u32]) -> Vec<u8> {
+    let mut page = bytes(page);
+    match random.below(8) {
+        0 => page.extend(&[0; 7][random.below(7)..]),
+        1 => page.truncate(page.len().saturating_sub(random.below(7) + 1)),
+        _ => {}
+    }
+    page
 }
 
 fn finish(sides: &mut Sides, random: &mut Random, record: Record) -> Outcome {
@@ -85,6 +95,6 @@ fn count(random: &mut Random, count: u32, n: u32) -> u32 {
 }
 
 /// Some bytes that are no whole four.
-fn odd(random: &mut Random) -> usize {
+pub fn odd(random: &mut Random) -> usize {
     random.below(8).saturating_sub(4)
 }

@@ -7,20 +7,26 @@
 #![deny(unsafe_code)]
 
 mod forged;
+mod forged_writers;
 mod lists;
 #[allow(unsafe_code)]
 mod ours;
 mod sides;
 mod texts;
+mod writer_sides;
+mod writes;
 
-use sides::Sides;
+use sides::{Sides, NUMBERS};
 use std::process::ExitCode;
+use writer_sides::WriterSides;
 
-/// What is walked: texts of up to so many characters, with pushes of up to so many, and the characters that stand alone.
+/// What is walked: texts of up to so many characters, with pushes of up to so many, and the characters that stand alone;
+/// whether every string of three bytes is written.
 struct Extent {
     texts: usize,
     pushed: usize,
     alone: Vec<u32>,
+    strings: bool,
 }
 
 fn main() -> ExitCode {
@@ -29,7 +35,7 @@ fn main() -> ExitCode {
         eprintln!("usage: calls short|long SEED COUNT");
         return ExitCode::from(2);
     };
-    match compare(&mut Sides::new(), &extent, seed, count) {
+    match compare(&extent, seed, count) {
         Ok(()) => ExitCode::SUCCESS,
         Err(difference) => {
             println!("{difference}");
@@ -43,14 +49,20 @@ fn asked(words: &[String]) -> Option<(Extent, u64, u64)> {
         return None;
     };
     let extent = match form.as_str() {
-        "short" => Extent { texts: 3, pushed: 3, alone: texts::bounds() },
-        "long" => Extent { texts: 5, pushed: 4, alone: texts::characters() },
+        "short" => Extent { texts: 3, pushed: 3, alone: texts::bounds(), strings: false },
+        "long" => Extent { texts: 5, pushed: 4, alone: texts::characters(), strings: true },
         _ => return None,
     };
     Some((extent, seed.parse().ok()?, count.parse().ok()?))
 }
 
-fn compare(sides: &mut Sides, extent: &Extent, seed: u64, count: u64) -> Result<(), String> {
+fn compare(extent: &Extent, seed: u64, count: u64) -> Result<(), String> {
+    compare_scanner(&mut Sides::new(), extent, seed, count)?;
+    compare_writer(&mut WriterSides::new(), extent, seed, count)
+}
+
+fn compare_scanner(sides: &mut Sides, extent: &Extent, seed: u64, count: u64) -> Result<(), String> {
+    let say = |sides: &mut Sides, part: &str| say(&mut sides.answers, &[2, 1, 10, 8], part);
     texts::every_text(sides, extent.texts, extent.pushed)?;
     say(sides, &format!("every text of up to {} characters, with pushes {}", extent.texts, extent.pushed));
     texts::every_state(sides, &extent.alone)?;
@@ -64,9 +76,25 @@ fn compare(sides: &mut Sides, extent: &Extent, seed: u64, count: u64) -> Result<
     Ok(())
 }
 
-/// Says what a part compared, and begins the count anew.
-fn say(sides: &mut Sides, part: &str) {
-    let refused = [2, 1, 10, 8].map(|number| format!("{number}: {}", sides.answers[number]));
-    println!("{part}: {} calls compared, refused by {}", sides.calls(), refused.join(", "));
-    sides.answers = Default::default();
+fn compare_writer(sides: &mut WriterSides, extent: &Extent, seed: u64, count: u64) -> Result<(), String> {
+    let say = |sides: &mut WriterSides, part: &str| say(&mut sides.answers, &[9, 2, 3, 8, 4, 6, 5], part);
+    writes::every_string(sides, extent.strings)?;
+    let longest = if extent.strings { 3 } else { 2 };
+    say(sides, &format!("writes, every string of up to {longest} bytes, and the bounds of UTF-8"));
+    writes::every_state(sides, &extent.alone)?;
+    say(sides, &format!("writes, {} characters in every state", extent.alone.len()));
+    forged_writers::every_record(sides)?;
+    say(sides, "writes, forged records");
+    writes::named_pages(sides)?;
+    say(sides, "writes, pages by name");
+    writes::random_lists(sides, seed, count)?;
+    say(sides, "writes, random lists");
+    Ok(())
+}
+
+/// Says what a part compared, refusals in the order of their tests, and begins the count anew.
+fn say(answers: &mut [u64; NUMBERS], order: &[usize], part: &str) {
+    let refused: Vec<String> = order.iter().map(|number| format!("{number}: {}", answers[*number])).collect();
+    println!("{part}: {} calls compared, refused by {}", answers.iter().sum::<u64>(), refused.join(", "));
+    *answers = [0; NUMBERS];
 }

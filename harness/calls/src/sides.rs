@@ -11,10 +11,13 @@ use harness::words::list;
 pub const MOST_BYTES: usize = 4096;
 
 /// So many bytes past the queue are compared too: nothing may be written there.
-const PAST: usize = 8;
+pub const PAST: usize = 8;
 
 /// What every byte of the queue is before a call.
-const BLANK: u8 = 0xEE;
+pub const BLANK: u8 = 0xEE;
+
+/// The numbers of the refusals that a call gives are below this one.
+pub const NUMBERS: usize = 11;
 
 /// The record after a call, or the difference.
 pub type Outcome = Result<Record, String>;
@@ -28,16 +31,37 @@ pub enum Call<'a> {
     Finish(u32),
 }
 
+/// The page of the calls, as bytes.
+#[derive(Default)]
+pub struct Lent {
+    pub bytes: Vec<u8>,
+    pub accepted: bool,
+}
+
+impl Lent {
+    /// The oracle answers from it, if it is accepted. One whose length is no multiple of four is wrong.
+    pub fn take(bytes: Vec<u8>) -> Self {
+        let whole = bytes.len() % 4 == 0;
+        let page = Page::read(&numbers(&bytes)).filter(|_| whole);
+        let accepted = page.is_some();
+        properties::answer_from(page);
+        Self { bytes, accepted }
+    }
+
+    /// Its length and its numbers.
+    pub fn shown(&self) -> String {
+        format!("{} bytes, {}", self.bytes.len(), list(numbers(&self.bytes)))
+    }
+}
+
 pub struct Sides {
     oracle: Scanner,
-    page: Vec<u8>,
-    /// Whether the page is accepted.
-    accepted: bool,
+    page: Lent,
     chunk: Vec<u8>,
     queue: Box<[u8]>,
     expected: Box<[u8]>,
     /// How many calls were refused by each number, those by 0 being accepted.
-    pub answers: [u64; 11],
+    pub answers: [u64; NUMBERS],
 }
 
 impl Sides {
@@ -45,24 +69,18 @@ impl Sides {
         let queue = vec![BLANK; MOST_BYTES + PAST].into_boxed_slice();
         Self {
             oracle: Scanner::default(),
-            page: Vec::new(),
-            accepted: false,
+            page: Lent::default(),
             chunk: Vec::new(),
             expected: queue.clone(),
             queue,
-            answers: [0; 11],
+            answers: [0; NUMBERS],
         }
     }
 
-    /// Takes the page of the calls that follow, as bytes: one whose length is no multiple of four is wrong. Whether it is
-    /// accepted.
+    /// Takes the page of the calls that follow. Whether it is accepted.
     pub fn take_page(&mut self, bytes: Vec<u8>) -> bool {
-        let whole = bytes.len() % 4 == 0;
-        let page = Page::read(&numbers(&bytes)).filter(|_| whole);
-        self.accepted = page.is_some();
-        self.page = bytes;
-        properties::answer_from(page);
-        self.accepted
+        self.page = Lent::take(bytes);
+        self.page.accepted
     }
 
     /// A call with so many bytes of queue. The record after it is the port's.
@@ -84,7 +102,7 @@ impl Sides {
                 self.chunk.clear();
                 self.chunk.extend(characters.iter().flat_map(|c| c.to_le_bytes()));
                 self.chunk.extend(odd);
-                ours::scan(record, &self.page, options, &self.chunk, queue)
+                ours::scan(record, &self.page.bytes, options, &self.chunk, queue)
             }
             Call::Finish(end_of_file) => ours::finish(record, end_of_file, queue),
         }
@@ -96,7 +114,7 @@ impl Sides {
         let places = room / 4;
         let answer = match call {
             Call::Scan(options, characters, _) => {
-                self.oracle.scan(self.accepted, options & 1 != 0, options & 2 != 0, places, characters)
+                self.oracle.scan(self.page.accepted, options & 1 != 0, options & 2 != 0, places, characters)
             }
             Call::Finish(end_of_file) => self.oracle.finish(end_of_file != 0, places),
         };
@@ -128,10 +146,9 @@ impl Sides {
         };
         let shown = |reply: Reply, queue: &[u8]| format!("{reply:x?} {}", list(numbers(&queue[..room + PAST])));
         format!(
-            "DIFFERENCE\n  call:   {call} room={room} bytes\n  from:   {record:x?}\n  page:   {} bytes, {}\n  \
+            "DIFFERENCE\n  call:   {call} room={room} bytes\n  from:   {record:x?}\n  page:   {}\n  \
              oracle: {}\n  ours:   {}",
-            self.page.len(),
-            list(numbers(&self.page)),
+            self.page.shown(),
             shown(expected, &self.expected),
             shown(reply, &self.queue)
         )
@@ -160,6 +177,6 @@ pub fn bytes(numbers: &[u32]) -> Vec<u8> {
 }
 
 /// The numbers that the whole fours are.
-fn numbers(bytes: &[u8]) -> Vec<u32> {
+pub fn numbers(bytes: &[u8]) -> Vec<u32> {
     bytes.chunks_exact(4).map(|four| u32::from_le_bytes([four[0], four[1], four[2], four[3]])).collect()
 }

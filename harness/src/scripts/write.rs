@@ -81,7 +81,7 @@ fn call(random: &mut Random, known: &Known) -> String {
 }
 
 /// A page; now and then one by which 1A, that stands for a refused character, is unassigned.
-fn page(random: &mut Random) -> Vec<u32> {
+pub fn page(random: &mut Random) -> Vec<u32> {
     if random.once_in(5) {
         return vec![0, 2, 0, 0x1B, 0x19, random.pick(&[0x377, 0x10FFFF])];
     }
@@ -94,7 +94,7 @@ fn claim(random: &mut Random) -> String {
 }
 
 fn characters(random: &mut Random, known: &Known) -> String {
-    let mut text = text(random, known);
+    let mut text = text(random, known.color);
     if random.once_in(60) {
         text.push(random.pick(&alphabet::NO_CHARACTERS));
     }
@@ -102,8 +102,8 @@ fn characters(random: &mut Random, known: &Known) -> String {
     operation("W chars", std::iter::once(room).chain(text))
 }
 
-fn text(random: &mut Random, known: &Known) -> Vec<u32> {
-    let escapes = if known.color { 5 } else { 1 };
+fn text(random: &mut Random, color: bool) -> Vec<u32> {
+    let escapes = if color { 5 } else { 1 };
     match random.below(10 + escapes) {
         0 => alphabet::run(random, 8),
         1 => vec![0x0A],
@@ -136,7 +136,15 @@ fn escape(random: &mut Random) -> Vec<u32> {
 }
 
 fn bytes(random: &mut Random, known: &Known) -> String {
-    let text: String = text(random, known).into_iter().filter_map(char::from_u32).collect();
+    let bytes = byte_string(random, known.color);
+    let count = valid_prefix(&bytes).chars().count();
+    let room = alphabet::room(random, known.needed + 3 * count);
+    operation("W bytes", std::iter::once(room).chain(bytes.into_iter().map(u32::from)))
+}
+
+/// A text in UTF-8, whole, cut off or with an invalid end; or bytes of the kind `utf8`. A color writer gets more escapes.
+pub fn byte_string(random: &mut Random, color: bool) -> Vec<u8> {
+    let text: String = text(random, color).into_iter().filter_map(char::from_u32).collect();
     let mut bytes = text.into_bytes();
     match random.below(6) {
         0 => bytes.extend(utf8::random_bytes(random)),
@@ -145,7 +153,5 @@ fn bytes(random: &mut Random, known: &Known) -> String {
         3 => bytes.push(0xFF),
         _ => {}
     }
-    let count = valid_prefix(&bytes).chars().count();
-    let room = alphabet::room(random, known.needed + 3 * count);
-    operation("W bytes", std::iter::once(room).chain(bytes.into_iter().map(u32::from)))
+    bytes
 }

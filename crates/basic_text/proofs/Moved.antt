@@ -1,0 +1,153 @@
+-- Numbers stored in a queue of bytes, as the functions of a write store them. Assumes nothing.
+--     Wide32                    each number of a list has 32 bits
+--     numbers-sets, tail-sets    the bytes of numbers, stored, are the numbers stored, and the bytes past the last whole four stay
+--     take-wide, take-fits      the first of some numbers
+--     moved                     what some steps stored in places of their own, moved behind k numbers, is what they store there
+--     own-writer, own-at        the steps from a place of their own
+--     turn-few, finish-few      a turn stores at most 67 characters, and the end one
+--     with-tail                 a queue is its numbers and the bytes past the last whole four
+use Prim.Native.Nat.{ℕ, zero, suc, _+_, _*_, _/_, _%_, _≤_, _<_}
+use mathlib.Core.Path.{_≡_, refl, sym, ap, _∙_}
+use mathlib.Core.Bool.{Bool, true}
+use mathlib.Core.List.{List, [], _∷_, _++_}
+use native.Mathlib.Nat.{zero-add}
+use native.Mathlib.Numerals.{add-one}
+use native.Mathlib.Omega.{arith}
+use lib.Dec.{leb}
+use lib.ListN.{length, getD, take, drop, set}
+use lib.Seq.{sets, length-sets, drop-set-lt, length-take-le}
+use borrow.Author.Tests.{leb-true}
+use Rattle.unicode.proofs.Kit.{both-true}
+use Rattle.unicode.proofs.Lists.{sets-filled}
+use Rattle.isolate_unassigned.specs.declared.IsolateUnassigned.{IsolateUnassigned}
+use Rattle.isolate_unassigned.specs.Isolate.{finishOf}
+use Rattle.text_output.specs.declared.TextOutput.{TextOutput}
+use Rattle.text_write.specs.declared.store.Place.{Place}
+use Rattle.text_write.specs.declared.store.Pushed.{Pushed}
+use Rattle.text_write.specs.declared.store.Pushed.the-variants.{On, Stopped}
+use Rattle.text_output.specs.Writer.{heldIn, sound}
+use Rattle.text_output.specs.Step.{Stepped, stepsOf}
+use Rattle.text_write.specs.Inner.{Progress, writerAt, pushed, stored, progress, turnOf}
+use Rattle.text_write.proofs.Stays.{steps-stay, turn-sound, owed-one}
+use Rattle.basic_text.specs.Exports.{number, numbers, bytesOf, withNumbers}
+use Rattle.basic_text.specs.Inner.{tail, atPlace, placeIn, behindOf}
+use Rattle.basic_text.proofs.Laws.{Bytes, length-numbers, length-bytes, with-all}
+use Rattle.basic_text.proofs.Stores.{sets-bytes, take-filled}
+use Rattle.basic_text.proofs.Crossing.{number-back}
+
+abbrev pub Wide32 : List ℕ → Type 0
+Wide32 ns = (i : ℕ) → getD ns i 0 < 4294967296
+
+four-more : (n : ℕ) → 4 * suc n ≡ suc (suc (suc (suc (4 * n))))
+four-more n = omega arith
+
+-- ---- one number
+numbers-set : (q : List ℕ) (k n : ℕ) → n < 4294967296 → 4 * (k + 1) ≤ length q → numbers (sets q (4 * k) (bytesOf (n ∷ []))) ≡ set (numbers q) k n
+numbers-set [] k n w h = absurd (omega arith)
+numbers-set (a ∷ []) k n w h = absurd (omega arith)
+numbers-set (a ∷ b ∷ []) k n w h = absurd (omega arith)
+numbers-set (a ∷ b ∷ c ∷ []) k n w h = absurd (omega arith)
+numbers-set (a ∷ b ∷ c ∷ d ∷ rest) zero n w h = rw (number-back n w) refl
+numbers-set (a ∷ b ∷ c ∷ d ∷ rest) (suc k) n w h =
+    rw (four-more k) (ap (λ (l : List ℕ). number a b c d ∷ l) (numbers-set rest k n w (omega arith)))
+
+-- ---- some numbers
+wide-more : (n : ℕ) (ns : List ℕ) → Wide32 (n ∷ ns) → Wide32 ns
+wide-more n ns w i = w (suc i)
+
+pub numbers-sets : (ns q : List ℕ) (k : ℕ) → Wide32 ns → k + length ns ≤ length (numbers q) →
+    numbers (sets q (4 * k) (bytesOf ns)) ≡ sets (numbers q) k ns
+numbers-sets [] q k w h = refl
+numbers-sets (n ∷ ns) q k w h =
+    let one = numbers-set q k n (w 0) (omega (arith, length-numbers q)) in
+    let q' = sets q (4 * k) (bytesOf (n ∷ [])) in
+    let e : length (numbers q') ≡ length (numbers q) =
+    omega (arith, length-numbers q', length-numbers q, length-sets q (4 * k) (bytesOf (n ∷ []))) in
+    rw (sets-bytes (n ∷ []) ns q k) (numbers-sets ns q' (k + 1) (wide-more n ns w) (omega (arith, e)) ∙ rw (one, add-one) refl)
+
+pub take-wide : (n : ℕ) (ns : List ℕ) → Wide32 ns → Wide32 (take n ns)
+take-wide zero ns w i = omega arith
+take-wide (suc n) [] w i = omega arith
+take-wide (suc n) (x ∷ ns) w zero = w 0
+take-wide (suc n) (x ∷ ns) w (suc i) = take-wide n ns (wide-more x ns w) i
+
+pub take-fits : (k n : ℕ) (ns : List ℕ) (m : ℕ) → n ≤ length ns → k + n ≤ m → k + length (take n ns) ≤ m
+take-fits k n ns m h g = omega (arith, length-take-le n ns h)
+
+drop-sets : (n : ℕ) (l : List ℕ) (i : ℕ) (vs : List ℕ) → i + length vs ≤ n → drop n (sets l i vs) ≡ drop n l
+drop-sets n l i [] h = refl
+drop-sets n l i (v ∷ vs) h = drop-sets n (set l i v) (suc i) vs (omega arith) ∙ drop-set-lt n l i v (omega arith)
+
+pub tail-sets : (ns q : List ℕ) (k : ℕ) → k + length ns ≤ length (numbers q) → tail (sets q (4 * k) (bytesOf ns)) ≡ tail q
+tail-sets ns q k h =
+    let q' = sets q (4 * k) (bytesOf ns) in
+    let e : length (numbers q') ≡ length (numbers q) =
+    omega (arith, length-numbers q', length-numbers q, length-sets q (4 * k) (bytesOf ns)) in
+    rw e (drop-sets (4 * length (numbers q)) q (4 * k) (bytesOf ns) (omega (arith, length-bytes ns)))
+
+pub with-tail : (q q₀ : List ℕ) → Bytes q → length q ≡ length q₀ → tail q ≡ tail q₀ → q ≡ withNumbers (numbers q) q₀
+with-tail q q₀ b l t =
+    let e : length (numbers q) ≡ length (numbers q₀) = omega (arith, length-numbers q, length-numbers q₀) in
+    sym (with-all q b) ∙ ap (λ (r : List ℕ). bytesOf (numbers q) ++ r) (rw (← e) at t)
+
+-- ---- steps moved
+moved-by : (k : ℕ) (x : Pushed) (escape few places : List ℕ) →
+    progress (behindOf k x) escape places
+    ≡ (let y = progress x escape few in
+    record { going = y .going; at = k + y .at; writer = y .writer; refusal = y .refusal; places = places })
+unfolding writerAt atPlace
+moved-by k (On w) escape few places = refl
+moved-by k (Stopped w stop) escape few places = refl
+
+place-at : (x : Pushed) (escape few : List ℕ) → placeIn x .at ≡ progress x escape few .at
+place-at (On w) escape few = refl
+place-at (Stopped w stop) escape few = refl
+
+places-of : (x : Pushed) (escape few : List ℕ) → progress x escape few .places ≡ few
+places-of (On w) escape few = refl
+places-of (Stopped w stop) escape few = refl
+
+module _ (x : Pushed) (escape few few₀ : List ℕ) (s : Stepped) (e : progress x escape few ≡ stored 0 few₀ s) where
+  pub moved-at : placeIn x .at ≡ length (pushed s)
+  moved-at = place-at x escape few ∙ ap (λ (y : Progress). y .at) e ∙ zero-add (length (pushed s))
+
+  pub moved-few : length (pushed s) ≤ length few₀ → placeIn x .at ≤ length few
+  moved-few h =
+      let n = ap length (sym (places-of x escape few) ∙ ap (λ (y : Progress). y .places) e) ∙ length-sets few₀ 0 (pushed s) in
+      omega (arith, moved-at, n, h)
+
+  few-holds : length (pushed s) ≤ length few₀ → take (placeIn x .at) few ≡ pushed s
+  few-holds h =
+      let p = sym (places-of x escape few) ∙ ap (λ (y : Progress). y .places) e ∙ sets-filled (pushed s) few₀ h in
+      rw (p, moved-at) (take-filled (pushed s) few₀ (length (pushed s)) refl)
+
+  pub moved : length (pushed s) ≤ length few₀ → (k : ℕ) (places₀ places : List ℕ) → places ≡ sets places₀ k (take (placeIn x .at) few) →
+      progress (behindOf k x) escape places ≡ stored k places₀ s
+  moved h k places₀ places q =
+      moved-by k x escape few places
+      ∙ ap (λ (y : Progress). record { going = y .going; at = k + y .at; writer = y .writer; refusal = y .refusal; places = places }) e
+      ∙ rw (zero-add, q, few-holds h) refl
+
+-- ---- how many
+held-most : (w : TextOutput) → sound w ≡ true → w .held ≤ 64
+held-most w s = leb-true (w .held) 64 (both-true (leb (w .held) 64) (heldIn (w .state) (w .held)) s .0)
+
+pub turn-few : (crlf : Bool) (p : List ℕ) (w : TextOutput) (r : IsolateUnassigned) (c : ℕ) → sound w ≡ true →
+    length (pushed (turnOf crlf p w r c)) ≤ 67
+turn-few crlf p w r c s = omega (arith, turn-sound crlf p c w r s .size, owed-one r, held-most w s)
+
+pub finish-few : (w : TextOutput) (r : IsolateUnassigned) → sound w ≡ true → length (pushed (stepsOf w [] (finishOf r))) ≤ 67
+finish-few w r s = omega (arith, steps-stay (finishOf r) w [] s .size, owed-one r, held-most w s)
+
+first-place : (w : Place) (escape : List ℕ) → writerAt (atPlace w 0) escape ≡ writerAt w escape
+unfolding writerAt atPlace
+first-place w escape = refl
+
+-- from a place of one's own
+module _ (w r : Place) (e : r ≡ atPlace w 0) where
+  pub own-writer : (escape : List ℕ) → writerAt r escape ≡ writerAt w escape
+  own-writer escape = rw e (first-place w escape)
+
+  pub own-at : r .at ≡ 0
+  unfolding atPlace
+  own-at = rw e refl

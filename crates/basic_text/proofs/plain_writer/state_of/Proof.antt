@@ -1,0 +1,14 @@
+-- `basic_text::plain_writer::state_of` meets its contract: its tests are those of `writerStateOf`, in their order.
+use Rattle.unicode.proofs.Kit.{tests}
+use Rattle.basic_text.proofs.plain_writer.state_of.Statement.{statement}
+use Rattle.basic_text.proofs.plain_writer.state_of.Tie as tie
+
+pub state-of-spec : {M : Type 1} → statement M
+state-of-spec =
+    tie.close
+    (tie.spec
+    (λ c. search tests depth 12)
+    (λ c. search tests depth 12)
+    (λ c. search tests depth 12)
+    (λ c. search tests depth 12)
+    (λ c. search tests depth 12))

@@ -1,0 +1,41 @@
+-- `store_numbers` meets its contract: the bytes that are stored are those of numbers of 32 bits.
+use Prim.Native.Nat.{_+_, _≤_}
+use mathlib.Core.Path.{sym, _∙_, ap}
+use native.Mathlib.Omega.{arith}
+use denote.Ref.{now}
+use lib.ListN.{length, take}
+use Rattle.basic_text.specs.Exports.{numbers}
+use Rattle.basic_text.specs.Inner.{tail}
+use Rattle.basic_text.proofs.Laws.{length-numbers}
+use Rattle.basic_text.proofs.Moved.{Wide32, take-wide, take-fits, numbers-sets, tail-sets}
+use borrow.Author.Needs.{needs}
+use Rattle.basic_text.proofs.writing.store_numbers.Statement.{statement}
+use Rattle.basic_text.proofs.writing.store_numbers.Tie as tie
+use Rattle.basic_text.proofs.writing.store_numbers.Reads as reads
+use Rattle.basic_text.proofs.writing.store_numbers.Lts as lts
+use Rattle.basic_text.proofs.numbers.write_numbers.Reads as write-numbers-reads
+
+-- src/writing.rt:43:5
+write-numbers-requires : tie.Need-write-numbers-requires
+write-numbers-requires c κs =
+    let s = c .before .before .before in
+    (s .pre .0, omega (arith, s .pre .1, length-numbers (now (s .args .queue))))
+
+-- src/writing.rt:37:1
+same-length : tie.Need-same-length
+same-length c = search needs
+
+-- src/writing.rt:37:1
+returns : tie.Need-returns
+returns c =
+    let s = c .before .before .before .before .before .before in
+    let a = s .args in
+    let e = c .before .before .write-numbers .ensures in
+    let fits = take-fits (a .k) (a .n) (now (a .from)) _ (s .pre .0) (s .pre .1) in
+    let wide : Wide32 (now (a .from)) = λ i. omega (arith, c .before .before .before .before .shared-slice-known .given i) in (
+      ap numbers e ∙ numbers-sets (take (a .n) (now (a .from))) (now (a .queue)) (a .k) (take-wide (a .n) (now (a .from)) wide) fits,
+      ap tail e ∙ tail-sets (take (a .n) (now (a .from))) (now (a .queue)) (a .k) fits,
+    )
+
+pub store-numbers-spec : {M : Type 1} → statement M
+store-numbers-spec = tie.close (tie.spec write-numbers-requires same-length returns)

@@ -1,0 +1,160 @@
+-- `write` meets its contract: it is refused as the definition says, or it is the write of the decoded characters; the bytes past the
+-- last whole four stay.
+use Prim.Native.Nat.{_≤_}
+use mathlib.Core.Path.{_≡_, refl, sym, _∙_, ap}
+use native.Mathlib.Omega.{arith}
+use denote.Ref.{now}
+use lib.ListN.{length}
+use Rattle.unicode.specs.declared.utf8.Prefix.{Prefix}
+use Rattle.unicode.specs.Utf8.{charsOf}
+use Rattle.unicode.proofs.Texts.{longest}
+use Rattle.text_output.specs.Writer.{BytesOutcome}
+use Rattle.text_output.specs.Write.{taking}
+use Rattle.text_write.proofs.Entries.{bytes-refused, let-through, bytes-run, write-ends, end-anywhere, place-sound, place-fits, same-end, taken, refused-anywhere}
+use Rattle.basic_text.specs.Exports.{numbers, withNumbers}
+use Rattle.basic_text.proofs.Laws.{Bytes, length-numbers, with-all}
+use Rattle.basic_text.proofs.Moved.{with-tail}
+use borrow.Author.Needs.{needs}
+use Rattle.basic_text.proofs.writing.write.Statement.{statement}
+use Rattle.basic_text.proofs.writing.write.Tie as tie
+use Rattle.basic_text.proofs.writing.write.Reads as reads
+use Rattle.basic_text.proofs.writing.write.Lts as lts
+use Rattle.basic_text.proofs.writing.first_number.Reads as first-number-reads
+use Rattle.basic_text.proofs.writing.run_write.Reads as run-write-reads
+use Rattle.text_write.proofs.bytes_refusal.Reads as bytes-refusal-reads
+use Rattle.text_write.proofs.refused_bytes.Reads as refused-bytes-reads
+use Rattle.text_write.proofs.end_write.Reads as end-write-reads
+use Rattle.text_write.proofs.place_of.Reads as place-of-reads
+use Rattle.text_write.proofs.taking.Reads as taking-reads
+use Rattle.unicode.proofs.valid_prefix.Reads as valid-prefix-reads
+
+-- the record has places for 64 held characters
+long : (s : tie.Start) → length (s .args .w .«escape_sequence») ≡ 64
+long s = search needs
+
+-- src/writing.rt:205:9
+valid-prefix-requires : tie.Need-valid-prefix-requires
+valid-prefix-requires c κs = search needs
+
+-- src/writing.rt:206:9
+bytes-refusal-requires : tie.Need-bytes-refusal-requires
+bytes-refusal-requires c κs = search needs
+
+-- src/writing.rt:213:9
+refused-bytes-requires : tie.Need-refused-bytes-requires
+refused-bytes-requires c κs = search needs
+
+-- src/writing.rt:213:9
+returns : tie.Need-returns
+returns c =
+    let a = c .before .before .before .before .before .before .before .args in
+    let w = a .w in
+    let p = now (a .page) in
+    let bytes = now (a .bytes) in
+    let queue = now (a .queue) in
+    let out = numbers queue in
+    let no = rw (c .before .before .before .valid-prefix .ensures, ← length-numbers queue) at (c .before .before .bytes-refusal .ensures) in
+    let r = c .refused-bytes .ensures in
+    let is =
+    refused-anywhere (c .refused-bytes .result) w (c .before .before .bytes-refusal .result) out (r .0) (r .1)
+    ∙ bytes-refused w p bytes out _ no (omega (arith, c .before .if1 .taken)) in
+    let small : Bytes queue = λ i. omega (arith, c .before .before .before .before .slice-known .given i) in
+    (is, sym (with-all queue small) ∙ ap (λ (o : BytesOutcome). withNumbers (o .outcome .places) queue) is)
+
+-- src/writing.rt:216:34
+place-of-requires : tie.Need-place-of-requires
+place-of-requires c κs = search needs
+
+-- src/writing.rt:216:54
+slice-aggregate-run-write : tie.Need-slice-aggregate-run-write
+slice-aggregate-run-write c = search needs
+
+-- src/writing.rt:216:9
+run-write-requires : tie.Need-run-write-requires
+run-write-requires c κs =
+    let a = c .before .before .before .before .before .before .before .before .before .before .args in
+    let w = a .w in
+    let p = now (a .page) in
+    let bytes = now (a .bytes) in
+    let queue = now (a .queue) in
+    let out = numbers queue in
+    let no = rw (c .before .before .before .before .before .before .valid-prefix .ensures, ← length-numbers queue) at (c .before .before .before .before .before .bytes-refusal .ensures) in
+    let f = let-through w p bytes out _ no (omega (arith, c .before .before .before .before .if1 .left)) in
+    let r = c .before .before .place-of .result in
+    let e = c .before .before .place-of .ensures in
+    let cs = charsOf bytes in
+    (f .page, (place-sound w r (e .0) (e .1) p cs (f .is-sound), (long (c .before .before .before .before .before .before .before .before .before .before), place-fits w r (e .0) (e .1) p cs (length out) (f .is-sound) (f .fits))))
+
+-- src/writing.rt:217:9
+first-number-requires : tie.Need-first-number-requires
+first-number-requires c κs = search needs
+
+-- src/writing.rt:218:9
+end-write-requires : tie.Need-end-write-requires
+end-write-requires c κs =
+    let a = c .before .before .before .before .before .before .before .before .before .before .before .before .before .before .before .before .args in
+    let w = a .w in
+    let p = now (a .page) in
+    let bytes = now (a .bytes) in
+    let queue = now (a .queue) in
+    let out = numbers queue in
+    let no = rw (c .before .before .before .before .before .before .before .before .before .before .before .before .valid-prefix .ensures, ← length-numbers queue) at (c .before .before .before .before .before .before .before .before .before .before .before .bytes-refusal .ensures) in
+    let f = let-through w p bytes out _ no (omega (arith, c .before .before .before .before .before .before .before .before .before .before .if1 .left)) in
+    f .page
+
+-- src/writing.rt:219:5
+taking-requires : tie.Need-taking-requires
+taking-requires c κs = search needs
+
+-- src/writing.rt:196:1
+same-length : tie.Need-same-length
+same-length c = search needs
+
+-- src/writing.rt:196:1
+returns-2 : tie.Need-returns-2
+returns-2 c =
+    let a = c .before .before .before .before .before .before .before .before .before .before .before .before .before .before .before .before .before .before .args in
+    let w = a .w in
+    let p = now (a .page) in
+    let bytes = now (a .bytes) in
+    let queue = now (a .queue) in
+    let out = numbers queue in
+    let no = rw (c .before .before .before .before .before .before .before .before .before .before .before .before .before .before .valid-prefix .ensures, ← length-numbers queue) at (c .before .before .before .before .before .before .before .before .before .before .before .before .before .bytes-refusal .ensures) in
+    let f = let-through w p bytes out _ no (omega (arith, c .before .before .before .before .before .before .before .before .before .before .before .before .if1 .left)) in
+    let r = c .before .before .before .before .before .before .before .before .before .before .place-of .result in
+    let e = c .before .before .before .before .before .before .before .before .before .before .place-of .ensures in
+    let x = c .before .before .before .before .before .before .before .run-write .result in
+    let escape = c .before .before .before .before .before .before .before .run-write .last .1 .1 .1 .0 in
+    let after = c .before .before .before .before .before .before .before .run-write .last .1 .1 .1 .1 .0 in
+    let cs = charsOf bytes in
+    let t = c .taking .ensures in
+    let steps = c .before .before .before .before .before .before .before .run-write .ensures in
+    let n = ap (λ (q : Prefix). q .bytes) (c .before .before .before .before .before .before .before .before .before .before .before .before .before .before .valid-prefix .ensures) in
+    let written =
+    end-anywhere p (c .before .end-write .result) x escape _ (c .before .end-write .ensures .0) (numbers after) (c .before .before .first-number .ensures)
+    ∙ same-end w r (e .0) (e .1) p cs x escape (numbers after) out (steps .0)
+    ∙ write-ends w p cs out (f .is-sound) (f .page) (longest bytes .chars) (f .fits) in
+    let is =
+    taken (c .taking .result) (c .before .end-write .result) _ (numbers after) bytes (t .0) (t .1 .0) (t .1 .1) n
+    ∙ ap (taking bytes) written
+    ∙ bytes-run w p bytes out (f .is-sound) (f .page) (f .begins) in
+    let small : Bytes after = λ i. omega (arith, c .before .before .before .before .slice-known2 .given i) in
+    let same : length after ≡ length queue = omega (arith, c .before .before .before .before .before .queue .given) in
+    (is, with-tail after queue small same (steps .1) ∙ ap (λ (o : BytesOutcome). withNumbers (o .outcome .places) queue) is)
+
+pub write-spec : {M : Type 1} → statement M
+write-spec =
+    tie.close
+    (tie.spec
+    valid-prefix-requires
+    bytes-refusal-requires
+    refused-bytes-requires
+    returns
+    place-of-requires
+    slice-aggregate-run-write
+    run-write-requires
+    first-number-requires
+    end-write-requires
+    taking-requires
+    same-length
+    returns-2)

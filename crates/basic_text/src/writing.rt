@@ -1,0 +1,220 @@
+// A write of bytes into a buffer that is lent as bytes: the steps and the end are those of the crate `text_write`. The characters of
+// one turn are stored as numbers first, since a turn hands out at most 67: 64 held, 34F and two more.
+use super::numbers::read_number;
+use super::numbers::write_numbers;
+use isolate_unassigned::IsolateUnassigned;
+use text_output::TextOutput;
+use text_output::WrittenBytes;
+use text_write::Place;
+use text_write::Pushed;
+use text_write::Turned;
+use text_write::bytes_refusal;
+use text_write::end_write;
+use text_write::finish;
+use text_write::is_crlf;
+use text_write::place_of;
+use text_write::refused_bytes;
+use text_write::taking;
+use text_write::turn;
+use unicode::Utf8Step;
+use unicode::utf8_step;
+use unicode::valid_prefix;
+ghost use mathlib.Core.Path.{_≡_};
+ghost use mathlib.Core.Bool.{true};
+ghost use mathlib.Core.List.{[]};
+ghost use Prim.Native.Nat.{_+_, _≤_};
+ghost use lib.ListN.{length, getD, take};
+ghost use lib.Seq.{sets};
+ghost use Rattle.unicode.specs.Utf8.{charsOf};
+ghost use Rattle.page.specs.Page.{accepted};
+ghost use Rattle.isolate_unassigned.specs.Isolate.{finishOf};
+ghost use Rattle.text_output.specs.Writer.{sound, bytesOutcome};
+ghost use Rattle.text_output.specs.Step.{stepsOf};
+ghost use Rattle.text_output.specs.Write.{runIn, writeOf};
+ghost use Rattle.text_write.specs.Inner.{writerAt, pushed, stored, progress, turnOf, isolatorAfter};
+ghost use Rattle.basic_text.specs.Exports.{numbers, withNumbers};
+ghost use Rattle.basic_text.specs.Inner.{tail, atPlace, placeIn, behindOf};
+
+// Stores the first n of some numbers from place k on. Inner: asks for room.
+fn store_numbers(queue: &mut [u8], k: usize, from: &[u32], n: usize)
+    requires { ⌜ n ≤ length (now from) ⌝ }
+    requires { ⌜ k + n ≤ length (numbers (now queue)) ⌝ }
+    ensures places { λ r. ⌜ numbers (now (queue .exit)) ≡ sets (numbers (now (queue .entry))) k (take n (now (from .entry))) ⌝ }
+    ensures tail { λ r. ⌜ tail (now (queue .exit)) ≡ tail (now (queue .entry)) ⌝ }
+{
+    write_numbers(queue, k, from, n);
+}
+
+// The place, moved.
+fn at_place(w: Place, at: usize) -> Place
+    ensures { λ r. ⌜ r ≡ atPlace w at ⌝ }
+{
+    let mode = w.mode;
+    let state = w.state;
+    Place {
+        mode,
+        expect_starter: w.expect_starter,
+        state,
+        kept: w.kept,
+        held: w.held,
+        at,
+    }
+}
+
+// What some steps stored in few, moved to the queue from place k on. Inner: asks for room.
+fn move_behind(pushed: Pushed, k: usize, few: &[u32], queue: &mut [u8]) -> Pushed
+    requires few { ⌜ placeIn pushed .at ≤ length (now few) ⌝ }
+    requires room { ⌜ k + placeIn pushed .at ≤ length (numbers (now queue)) ⌝ }
+    ensures moved { λ r. ⌜ r ≡ behindOf k pushed ⌝ }
+    ensures places { λ r. ⌜
+        numbers (now (queue .exit)) ≡ sets (numbers (now (queue .entry))) k (take (placeIn pushed .at) (now (few .entry)))
+        ⌝ }
+    ensures tail { λ r. ⌜ tail (now (queue .exit)) ≡ tail (now (queue .entry)) ⌝ }
+{
+    match pushed {
+        Pushed::On(w) => {
+            store_numbers(queue, k, few, w.at);
+            Pushed::On(at_place(w, k + w.at))
+        }
+        Pushed::Stopped(w, stop) => {
+            store_numbers(queue, k, few, w.at);
+            Pushed::Stopped(at_place(w, k + w.at), stop)
+        }
+    }
+}
+
+// One character of a write. Inner, as `text_write::turn`.
+fn turn_bytes(
+    page: &[u32],
+    crlf: bool,
+    w: Place,
+    isolator: IsolateUnassigned,
+    c: u32,
+    escape: &mut [u32],
+    queue: &mut [u8],
+) -> Turned
+    requires page { ⌜ accepted (now page) ≡ true ⌝ }
+    requires sound { ⌜ sound (writerAt w (now escape)) ≡ true ⌝ }
+    requires long { ⌜ length (now escape) ≡ 64 ⌝ }
+    requires room { ⌜
+        w .at + length (pushed (turnOf crlf (now page) (writerAt w (now escape)) isolator c)) ≤ length (numbers (now queue))
+        ⌝ }
+    ensures steps { λ r. ⌜
+        progress (r .pushed) (now (escape .exit)) (numbers (now (queue .exit)))
+        ≡ stored (w .at) (numbers (now (queue .entry))) (turnOf crlf (now (page .entry)) (writerAt w (now (escape .entry))) isolator c)
+        ⌝ }
+    ensures isolator { λ r. ⌜ r .isolator ≡ isolatorAfter crlf (now (page .entry)) isolator c ⌝ }
+    ensures tail { λ r. ⌜ tail (now (queue .exit)) ≡ tail (now (queue .entry)) ⌝ }
+{
+    let mut few = [0u32; 67];
+    let turned = turn(page, crlf, at_place(w, 0), isolator, c, escape, &mut few);
+    let pushed = turned.pushed;
+    let after = turned.isolator;
+    Turned {
+        pushed: move_behind(pushed, w.at, &few, queue),
+        isolator: after,
+    }
+}
+
+// The 34F that the isolator owes at the end. Inner, as `text_write::finish`.
+fn finish_bytes(
+    w: Place,
+    isolator: IsolateUnassigned,
+    escape: &mut [u32],
+    queue: &mut [u8],
+) -> Pushed
+    requires sound { ⌜ sound (writerAt w (now escape)) ≡ true ⌝ }
+    requires long { ⌜ length (now escape) ≡ 64 ⌝ }
+    requires room { ⌜
+        w .at + length (pushed (stepsOf (writerAt w (now escape)) [] (finishOf isolator))) ≤ length (numbers (now queue))
+        ⌝ }
+    ensures steps { λ r. ⌜
+        progress r (now (escape .exit)) (numbers (now (queue .exit)))
+        ≡ stored (w .at) (numbers (now (queue .entry))) (stepsOf (writerAt w (now (escape .entry))) [] (finishOf isolator))
+        ⌝ }
+    ensures tail { λ r. ⌜ tail (now (queue .exit)) ≡ tail (now (queue .entry)) ⌝ }
+{
+    let mut few = [0u32; 67];
+    let pushed = finish(at_place(w, 0), isolator, escape, &mut few);
+    move_behind(pushed, w.at, &few, queue)
+}
+
+// The steps of a write of the longest valid prefix. Inner, as `text_write::turn`. What is left of them, from the place at hand on,
+// leads to the same end.
+fn run_write(
+    page: &[u32],
+    start: Place,
+    bytes: &[u8],
+    escape: &mut [u32],
+    queue: &mut [u8],
+) -> Pushed
+    requires page { ⌜ accepted (now page) ≡ true ⌝ }
+    requires sound { ⌜ sound (writerAt start (now escape)) ≡ true ⌝ }
+    requires long { ⌜ length (now escape) ≡ 64 ⌝ }
+    requires room { ⌜
+        start .at + length (pushed (runIn (start .mode) (now page) (writerAt start (now escape)) (charsOf (now bytes))))
+        ≤ length (numbers (now queue))
+        ⌝ }
+    ensures steps { λ r. ⌜
+        progress r (now (escape .exit)) (numbers (now (queue .exit)))
+        ≡ stored (start .at) (numbers (now (queue .entry))) (runIn (start .mode) (now (page .entry)) (writerAt start (now (escape .entry))) (charsOf (now (bytes .entry))))
+        ⌝ }
+    ensures tail { λ r. ⌜ tail (now (queue .exit)) ≡ tail (now (queue .entry)) ⌝ }
+{
+    let mode = start.mode;
+    let crlf = is_crlf(mode);
+    let mut w = start;
+    let mut isolator = IsolateUnassigned::new();
+    let mut place = 0;
+    loop {
+        let Utf8Step::Char(c, next_place) = utf8_step(bytes, place) else {
+            break;
+        };
+        place = next_place;
+        let turned = turn_bytes(page, crlf, w, isolator, c, escape, queue);
+        let pushed = turned.pushed;
+        let after = turned.isolator;
+        match pushed {
+            Pushed::On(next) => {
+                w = next;
+                isolator = after;
+            }
+            Pushed::Stopped(_, _) => {
+                return pushed;
+            }
+        }
+    }
+    finish_bytes(w, isolator, escape, queue)
+}
+
+// The first number of the queue, 0 where there is none.
+fn first_number(queue: &[u8]) -> u32
+    ensures { λ r. ⌜ r ≡ getD (numbers (now (queue .entry))) 0 0 ⌝ }
+{
+    if queue.len() < 4 {
+        return 0;
+    }
+    read_number(queue, 0)
+}
+
+// The write of bytes by a page of numbers. Total.
+pub fn write(w: TextOutput, page: &[u32], bytes: &[u8], queue: &mut [u8]) -> WrittenBytes
+    ensures outcome { λ r. ⌜
+        bytesOutcome r (numbers (now (queue .exit))) ≡ writeOf w (now (page .entry)) (now (bytes .entry)) (numbers (now (queue .entry)))
+        ⌝ }
+    ensures places { λ r. ⌜
+        now (queue .exit)
+        ≡ withNumbers (writeOf w (now (page .entry)) (now (bytes .entry)) (numbers (now (queue .entry))) .outcome .places) (now (queue .entry))
+        ⌝ }
+{
+    let prefix = valid_prefix(bytes);
+    let no = bytes_refusal(w, page, 0 < bytes.len(), prefix.chars, queue.len() / 4);
+    if no != 0 {
+        return refused_bytes(w, no);
+    }
+    let mut escape = w.escape_sequence;
+    let pushed = run_write(page, place_of(w), bytes, &mut escape, queue);
+    let first = first_number(queue);
+    let written = end_write(page, pushed, escape, first);
+    taking(prefix.bytes, written)
+}

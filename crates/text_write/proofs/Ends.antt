@@ -1,0 +1,41 @@
+-- The end of a write, and the room that it has. Assumes nothing.
+--     not-twice       of a test
+--     finished-end    how a write ends, by where its steps led
+--     write-fits      a write that 8 lets through has room for its steps
+--     write-keeps     steps leave the kept count
+use Prim.Native.Nat.{ℕ, _+_, _*_, _≤_}
+use mathlib.Core.Path.{_≡_, refl, sym, _∙_}
+use mathlib.Core.Bool.{Bool, true, false, not}
+use mathlib.Core.List.{List}
+use native.Mathlib.Omega.{arith}
+use lib.ListN.{length}
+use Rattle.isolate_unassigned.specs.Isolate.{fresh}
+use Rattle.text_output.specs.declared.Mode.{Mode}
+use Rattle.text_output.specs.declared.TextOutput.{TextOutput}
+use Rattle.text_output.specs.Writer.{sound}
+use Rattle.text_output.specs.Step.{Stepped, goes, stops}
+use Rattle.text_output.specs.Write.{runIn, finished, placesFor}
+use Rattle.text_write.specs.Inner.{pushed, writerAfter, stored, isCrlf, endOf}
+use Rattle.text_write.proofs.Rest.{run-rest}
+use Rattle.text_write.proofs.Stays.{Stays, stays-more, rest-stays}
+
+pub not-twice : (b : Bool) → not (not b) ≡ b
+not-twice true = refl
+not-twice false = refl
+
+-- what stays in a write, and how much it adds
+run-stays : (mode : Mode) (p cs : List ℕ) (w : TextOutput) → sound w ≡ true → Stays (3 * length cs) w (runIn mode p w cs)
+run-stays mode p cs w s =
+    rw (run-rest mode p w cs) (stays-more (3 * length cs + 0) _ w _ (omega arith) (rest-stays (isCrlf mode) p cs w fresh s))
+
+pub finished-end : (p : List ℕ) (s : Stepped) (places : List ℕ) (kept : ℕ) → writerAfter s .kept ≡ kept →
+    finished p s places ≡ endOf p (stored kept places s)
+finished-end p (goes xs w) places kept e = rw e refl
+finished-end p (stops xs w n) places kept e = rw e refl
+
+pub write-fits : (mode : Mode) (p cs : List ℕ) (w : TextOutput) (n : ℕ) → sound w ≡ true → placesFor w (length cs) ≤ n →
+    w .kept + length (pushed (runIn mode p w cs)) ≤ n
+write-fits mode p cs w n s h = omega (arith, run-stays mode p cs w s .size)
+
+pub write-keeps : (mode : Mode) (p cs : List ℕ) (w : TextOutput) → sound w ≡ true → writerAfter (runIn mode p w cs) .kept ≡ w .kept
+write-keeps mode p cs w s = run-stays mode p cs w s .kept
