@@ -6,7 +6,7 @@
 --     own-writer, own-at        the steps from a place of their own
 --     turn-few, finish-few      a turn stores at most 67 characters, and the end one
 --     with-tail                 a queue is its numbers and the bytes past the last whole four
-use Prim.Native.Nat.{ℕ, zero, suc, _+_, _*_, _/_, _%_, _≤_, _<_}
+use Prim.Native.Nat.{ℕ, zero, suc, _+_, _*_, _≤_, _<_}
 use mathlib.Core.Path.{_≡_, refl, sym, ap, _∙_}
 use mathlib.Core.Bool.{Bool, true}
 use mathlib.Core.List.{List, [], _∷_, _++_}

@@ -5,7 +5,7 @@
 --     takes          a step by which an escape takes one more character
 --     takes-few      a sound writer that is asked for one holds fewer than 64
 use Prim.Native.Nat.{ℕ, _<_}
-use mathlib.Core.Bool.{Bool, true, false, cond, _&&_, _||_}
+use mathlib.Core.Bool.{Bool, true, false, _&&_, _||_}
 use mathlib.Core.List.{List, [], _∷_, _++_}
 use mathlib.Core.Path.{_≡_}
 use native.Mathlib.Omega.{arith}
@@ -16,7 +16,7 @@ use Rattle.unicode.proofs.Kit.{never, by, both-true}
 use Rattle.text_utils.specs.Classes.{basicTextEnd}
 use Rattle.check_char.specs.declared.BasicTextError.the-variants.{Escape, UnrecognizedEscape}
 use Rattle.check_char.specs.Check.{errorNumbers}
-use Rattle.text_output.specs.declared.Ground.the-variants.{Newline, ZwjOrPrepend, Other}
+use Rattle.text_output.specs.declared.Ground.the-variants.{Other}
 use Rattle.text_output.specs.declared.State.{State}
 use Rattle.text_output.specs.declared.State.the-variants.{Ground, Esc, Csi}
 use Rattle.text_output.specs.declared.TextOutput.{TextOutput}

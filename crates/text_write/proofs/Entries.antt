@@ -6,9 +6,9 @@
 --     write-ends                      a write that is let through ends as its steps led
 --     place-sound, place-fits, same-end    the steps from the record's place on, and where they end
 --     abandoned, taken, refused-anywhere    a record abandoned; the bytes taken beside what a write of characters returns, and a refusal
-use Prim.Native.Nat.{ℕ, _+_, _*_, _≤_, _<_}
+use Prim.Native.Nat.{ℕ, _+_, _≤_, _<_}
 use mathlib.Core.Path.{_≡_, refl, sym, _∙_, ap}
-use mathlib.Core.Bool.{Bool, true, false, cond, not, _&&_}
+use mathlib.Core.Bool.{Bool, true, false, cond}
 use mathlib.Core.List.{List, [], _∷_}
 use native.Mathlib.Omega.{arith}
 use lib.Dec.{eqb, ltb}
@@ -16,7 +16,7 @@ use lib.ListN.{length, getD}
 use borrow.Author.Tests.{ne-eqb, ltb-false}
 use Rattle.unicode.specs.Chars.{areChars}
 use Rattle.unicode.specs.Utf8.{encodes, charsOf}
-use Rattle.unicode.proofs.Kit.{never, by, both}
+use Rattle.unicode.proofs.Kit.{by}
 use Rattle.unicode.proofs.Texts.{longest}
 use Rattle.page.specs.Page.{accepted}
 use Rattle.text_output.specs.declared.TextOutput.{TextOutput}
@@ -25,10 +25,10 @@ use Rattle.text_output.specs.declared.WrittenBytes.{WrittenBytes}
 use Rattle.text_write.specs.declared.store.Place.{Place}
 use Rattle.text_write.specs.declared.store.Pushed.{Pushed}
 use Rattle.text_write.specs.declared.store.Pushed.the-variants.{On, Stopped}
-use Rattle.text_output.specs.Writer.{Outcome, BytesOutcome, sound, afterNewline, wroteNumbers, writtenOutcome, bytesOutcome, refusedBy, abandonedBy}
-use Rattle.text_output.specs.Write.{runIn, finished, placesFor, writeRefusal, writeStrOf, beginsNone, accepts, usedBy, taking, writeOf}
+use Rattle.text_output.specs.Writer.{Outcome, sound, afterNewline, wroteNumbers, writtenOutcome, bytesOutcome, refusedBy, abandonedBy}
+use Rattle.text_output.specs.Write.{runIn, placesFor, writeRefusal, writeStrOf, beginsNone, accepts, taking, writeOf}
 use Rattle.text_output.specs.Close.{abandonOf}
-use Rattle.text_write.specs.Inner.{Progress, writerAt, pushed, stored, progress, endOf, refusedBefore, bytesRefusal, refusedBytes}
+use Rattle.text_write.specs.Inner.{writerAt, pushed, stored, progress, endOf, refusedBefore, bytesRefusal, refusedBytes}
 use Rattle.text_output.proofs.Passing.{write-runs}
 use Rattle.text_write.proofs.Ends.{finished-end, write-fits, write-keeps}
 

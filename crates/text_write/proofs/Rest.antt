@@ -7,16 +7,16 @@
 --     run-rest                        a write of characters is what is left of it at its start
 use Prim.Native.Nat.{ℕ}
 use mathlib.Core.Path.{_≡_, refl, sym, _∙_, ap}
-use mathlib.Core.Bool.{Bool, true, false, cond, _&&_}
+use mathlib.Core.Bool.{Bool, true, false}
 use mathlib.Core.List.{List, [], _∷_, _++_, map, append-assoc, append-nil}
 use native.Mathlib.Omega.{arith}
-use lib.Dec.{eqb, leb}
+use lib.Dec.{eqb}
 use borrow.Author.Tests.{eqb-true, ne-eqb}
-use Rattle.unicode.proofs.Kit.{never, by, split}
-use Rattle.check_char.specs.Check.{errorNumbers, reasonOf, checkNumbers}
+use Rattle.unicode.proofs.Kit.{by}
+use Rattle.check_char.specs.Check.{reasonOf, checkNumbers}
 use Rattle.check_char.proofs.Clean.{refused-substitute}
 use Rattle.isolate_unassigned.specs.declared.IsolateUnassigned.{IsolateUnassigned}
-use Rattle.isolate_unassigned.specs.Isolate.{recordOf, fresh, puts, unassigned, given, after, finishOf, outs, isolateOf}
+use Rattle.isolate_unassigned.specs.Isolate.{fresh, puts, given, after, finishOf, outs, isolateOf}
 use Rattle.isolate_unassigned.specs.Isolate.{stepOf as isolatedBy}
 use Rattle.isolate_unassigned.specs.Meaning.{joiner}
 use Rattle.text_output.specs.declared.State.{State}
@@ -25,7 +25,7 @@ use Rattle.text_output.specs.declared.Mode.{Mode}
 use Rattle.text_output.specs.declared.Mode.the-variants.{Plain, Crlf, Color}
 use Rattle.text_output.specs.declared.TextOutput.{TextOutput}
 use Rattle.text_output.specs.Step.{Stepped, goes, stops, behind, andThen, groundStep, escStep, csiStep, stepIn, stepOf, stepsOf}
-use Rattle.text_output.specs.Write.{checked, firstError, runOf, intoFirst, parts, lineEnd, moreParts, partsOf, runIn}
+use Rattle.text_output.specs.Write.{checked, firstError, runOf, parts, lineEnd, moreParts, partsOf, runIn}
 use Rattle.text_write.specs.Inner.{refusedIn, isCrlf, turnOf, isolatorAfter, restOf}
 use Rattle.text_write.proofs.Asked.{step-asked}
 

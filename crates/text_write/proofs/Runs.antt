@@ -4,11 +4,10 @@
 --     begin, again, stopped, ended               before the first turn, after one that goes on, after one that stops, after the last
 --     turn-room, finish-room                     there is room for the turn, and for the 34F that is owed at the end
 --     Left, left-begin, left-on, left-stop       the characters that are left at a place of the bytes
-use Prim.Native.Nat.{ℕ, zero, suc, _+_, _≤_, _<_}
-use mathlib.Core.Path.{_≡_, refl, sym, _∙_, ap}
+use Prim.Native.Nat.{ℕ, zero, suc, _+_, _≤_}
+use mathlib.Core.Path.{_≡_, refl, sym, _∙_}
 use mathlib.Core.Bool.{Bool, true}
 use mathlib.Core.List.{List, [], _∷_}
-use native.Mathlib.Nat.{zero-add}
 use native.Mathlib.Omega.{arith}
 use lib.ListN.{length}
 use Rattle.unicode.specs.declared.utf8.Utf8Step.the-variants.{Char, Stop as NoChar}

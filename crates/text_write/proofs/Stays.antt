@@ -5,15 +5,15 @@
 --     stays-then    steps behind steps
 --     steps-stay    of a run, its length
 --     rest-stays    of what is left of a write, three for each character, and the 34F that is owed
-use Prim.Native.Nat.{ℕ, suc, _+_, _*_, _≤_}
-use mathlib.Core.Path.{_≡_, refl, sym, _∙_, ap}
-use mathlib.Core.Bool.{Bool, true, false, cond, _&&_, _||_}
+use Prim.Native.Nat.{ℕ, _+_, _*_, _≤_}
+use mathlib.Core.Path.{_≡_, refl, _∙_}
+use mathlib.Core.Bool.{Bool, true, false, _&&_, _||_}
 use mathlib.Core.List.{List, [], _∷_, _++_}
 use native.Mathlib.Omega.{arith}
 use lib.Dec.{eqb, leb, ltb}
 use lib.ListN.{length, take, length-append, length-take, length-set}
-use borrow.Author.Tests.{eqb-true, ltb-true, leb-true, le-leb, eq-eqb}
-use Rattle.unicode.proofs.Kit.{never, by, both-true, both, split}
+use borrow.Author.Tests.{eqb-true, ltb-true, leb-true, le-leb}
+use Rattle.unicode.proofs.Kit.{by, both-true, both, split}
 use Rattle.check_char.specs.Check.{checkNumbers}
 use Rattle.isolate_unassigned.specs.declared.IsolateUnassigned.{IsolateUnassigned}
 use Rattle.isolate_unassigned.specs.declared.Isolated.{Isolated}
@@ -21,7 +21,6 @@ use Rattle.isolate_unassigned.specs.declared.Isolated.the-variants.{One, Two}
 use Rattle.isolate_unassigned.specs.Isolate.{fresh, given, after, finishOf}
 use Rattle.isolate_unassigned.specs.Isolate.{stepOf as isolatedBy}
 use Rattle.text_utils.specs.Classes.{basicTextEnd}
-use Rattle.text_output.specs.declared.Ground.the-variants.{Newline, ZwjOrPrepend, Other}
 use Rattle.text_output.specs.declared.State.{State}
 use Rattle.text_output.specs.declared.State.the-variants.{Ground, Esc, Csi}
 use Rattle.text_output.specs.declared.TextOutput.{TextOutput}

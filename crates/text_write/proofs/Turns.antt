@@ -4,16 +4,15 @@
 --     no-sub, checked-same, accepted-step    a character that the check accepts is stepped as itself
 --     checked-sub, refused-stored            a refused one, 1A, stops
 --     turn-end, after-end, turn-on, after-on    a turn at 0A that ends a part, and at any other character
-use Prim.Native.Nat.{ℕ, _+_, _≤_}
+use Prim.Native.Nat.{ℕ, _+_}
 use mathlib.Core.Path.{_≡_, refl, sym, _∙_, ap}
-use mathlib.Core.Bool.{Bool, true, false, cond, _&&_}
+use mathlib.Core.Bool.{Bool, true, false, _&&_}
 use mathlib.Core.List.{List, [], _∷_, _++_}
 use native.Mathlib.Nat.{add-zero}
 use native.Mathlib.Omega.{arith}
 use lib.Dec.{eqb}
-use lib.ListN.{length}
 use borrow.Author.Tests.{eqb-true}
-use Rattle.unicode.proofs.Kit.{never, by}
+use Rattle.unicode.proofs.Kit.{by}
 use Rattle.check_char.specs.declared.BasicTextError.{BasicTextError}
 use Rattle.check_char.specs.declared.Checked.{Checked}
 use Rattle.check_char.specs.declared.Checked.the-variants.{Ok, Err}
@@ -29,9 +28,9 @@ use Rattle.text_output.specs.declared.TextOutput.{TextOutput}
 use Rattle.text_write.specs.declared.store.Place.{Place}
 use Rattle.text_write.specs.declared.store.Stop.{Stop}
 use Rattle.text_write.specs.declared.store.Pushed.the-variants.{On, Stopped}
-use Rattle.text_output.specs.Step.{Stepped, stops, andThen, stepOf, stepsOf}
+use Rattle.text_output.specs.Step.{andThen, stepOf, stepsOf}
 use Rattle.text_output.specs.Write.{checked, lineEnd}
-use Rattle.text_write.specs.Inner.{writerAt, pushed, stored, stopNumbers, progress, refusedIn, turnOf, isolatorAfter}
+use Rattle.text_write.specs.Inner.{writerAt, stored, stopNumbers, progress, refusedIn, turnOf, isolatorAfter}
 use Rattle.text_write.proofs.Rest.{step-error, steps-one, refused-stops, accepted-no-sub, given-joined}
 
 -- ---- what the isolator puts before

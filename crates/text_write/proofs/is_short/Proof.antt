@@ -1,5 +1,5 @@
 -- `is_short` meets its contract: each test takes one of the three terms off the room.
-use Prim.Native.Nat.{_+_, _-_, _*_, _/_, _≤_, _<_}
+use Prim.Native.Nat.{_-_, _/_}
 use mathlib.Core.Path.{sym, _∙_}
 use native.Mathlib.Omega.{arith}
 use borrow.Author.Tests.{lt-ltb, le-ltb}
@@ -7,22 +7,17 @@ use Rattle.unicode.proofs.Kit.{by-lt}
 use Rattle.text_output.specs.Write.{placesFor}
 use Rattle.text_write.proofs.is_short.Statement.{statement}
 use Rattle.text_write.proofs.is_short.Tie as tie
-use Rattle.text_write.proofs.is_short.Reads as reads
-use Rattle.text_write.proofs.is_short.Lts as lts
 
--- src/lib.rt:315:13
 returns : tie.Need-returns
 returns c =
     let a = c .before .before .args in
     sym (lt-ltb (a .room) (placesFor (a .w) (a .n)) (omega (arith, c .if1 .taken)))
 
--- src/lib.rt:319:13
 returns-2 : tie.Need-returns-2
 returns-2 c =
     let a = c .before .before .before .before .before .args in
     sym (lt-ltb (a .room) (placesFor (a .w) (a .n)) (omega (arith, c .if2 .taken, c .before .before .before .if1 .left)))
 
--- src/lib.rt:311:5
 returns-3 : tie.Need-returns-3
 returns-3 c =
     let a = c .before .before .before .before .before .before .args in

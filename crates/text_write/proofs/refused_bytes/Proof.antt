@@ -5,23 +5,14 @@ use Rattle.text_write.proofs.Entries.{abandoned}
 use borrow.Author.Needs.{needs}
 use Rattle.text_write.proofs.refused_bytes.Statement.{statement}
 use Rattle.text_write.proofs.refused_bytes.Tie as tie
-use Rattle.text_write.proofs.refused_bytes.Reads as reads
-use Rattle.text_write.proofs.refused_bytes.Lts as lts
-use Rattle.text_output.proofs.TextOutput.abandon.Reads as abandon-reads
 
--- src/lib.rt:406:23
-abandon-requires : tie.Need-abandon-requires
-abandon-requires c κs = search needs
-
--- src/lib.rt:398:5
 returns : tie.Need-returns
 returns c =
     (refl, rw (c .before .if1 .taken, c .abandon .ensures, abandoned (c .before .before .args .w)) refl)
 
--- src/lib.rt:398:5
 returns-2 : tie.Need-returns-2
 returns-2 c =
     (refl, rw (ne-eqb (c .before .args .n) 3 (c .if1 .left)) refl)
 
 pub refused-bytes-spec : {M : Type 1} → statement M
-refused-bytes-spec = tie.close (tie.spec abandon-requires returns returns-2)
+refused-bytes-spec = tie.close (tie.spec (λ c κs. search needs) returns returns-2)

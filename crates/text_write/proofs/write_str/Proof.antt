@@ -1,6 +1,6 @@
 -- `write_str` meets its contract: its tests are the definition's, in their order; then its steps and its end are the write.
 use Prim.Native.Nat.{_≤_}
-use mathlib.Core.Path.{_≡_, refl, sym, _∙_, ap}
+use mathlib.Core.Path.{_≡_, sym, _∙_}
 use mathlib.Core.Bool.{true, false}
 use native.Mathlib.Omega.{arith}
 use denote.Ref.{now}
@@ -12,21 +12,7 @@ use Rattle.text_write.proofs.Entries.{before-zero, refused-before, refu
 use borrow.Author.Needs.{needs}
 use Rattle.text_write.proofs.write_str.Statement.{statement}
 use Rattle.text_write.proofs.write_str.Tie as tie
-use Rattle.text_write.proofs.write_str.Reads as reads
-use Rattle.text_write.proofs.write_str.Lts as lts
-use Rattle.text_write.proofs.is_short.Reads as is-short-reads
-use Rattle.text_write.proofs.refused_before.Reads as refused-before-reads
-use Rattle.text_write.proofs.end.end_write.Reads as end-write-reads
-use Rattle.text_write.proofs.end.first_of.Reads as first-of-reads
-use Rattle.text_write.proofs.end.place_of.Reads as place-of-reads
-use Rattle.text_write.proofs.run.run.Reads as run-reads
-use Rattle.unicode.proofs.are_chars.Reads as are-chars-reads
 
--- src/lib.rt:354:13
-refused-before-requires : tie.Need-refused-before-requires
-refused-before-requires c κs = search needs
-
--- src/lib.rt:356:13
 returns : tie.Need-returns
 returns c =
     let a = c .before .before .before .before .before .args in
@@ -36,11 +22,6 @@ returns c =
     let out = now (a .out) in
     refused-before w p cs out _ (c .before .refused-before .ensures) (omega (arith, c .if1 .taken))
 
--- src/lib.rt:361:13
-are-chars-requires : tie.Need-are-chars-requires
-are-chars-requires c κs = search needs
-
--- src/lib.rt:362:13
 returns-2 : tie.Need-returns-2
 returns-2 c =
     let a = c .before .before .before .before .before .before .before .args in
@@ -53,11 +34,6 @@ returns-2 c =
     let none : areChars cs ≡ false = sym (c .before .are-chars .ensures) ∙ not-true (c .before .are-chars .result) (c .if2 .taken) in
     refused-char w p cs out (f .0) (f .1) none
 
--- src/lib.rt:367:12
-is-short-requires : tie.Need-is-short-requires
-is-short-requires c κs = search needs
-
--- src/lib.rt:368:13
 returns-3 : tie.Need-returns-3
 returns-3 c =
     let a = c .before .before .before .before .before .before .before .before .before .args in
@@ -70,15 +46,6 @@ returns-3 c =
     let are : areChars cs ≡ true = sym (c .before .before .before .are-chars .ensures) ∙ not-false (c .before .before .before .are-chars .result) (c .before .before .if2 .left) in
     refused-room w p cs out (f .0) (f .1) are (sym (c .before .is-short .ensures) ∙ c .if3 .taken)
 
--- src/lib.rt:374:32
-place-of-requires : tie.Need-place-of-requires
-place-of-requires c κs = search needs
-
--- src/lib.rt:374:55
-slice-aggregate-run : tie.Need-slice-aggregate-run
-slice-aggregate-run c = search needs
-
--- src/lib.rt:374:13
 run-requires : tie.Need-run-requires
 run-requires c κs =
     let a = c .before .before .before .before .before .before .before .before .before .before .before .before .before .args in
@@ -93,11 +60,6 @@ run-requires c κs =
     let e = c .before .before .place-of .ensures in
     (f .1, (place-sound w r (e .0) (e .1) p cs (f .0), (search needs, place-fits w r (e .0) (e .1) p cs (length out) (f .0) fits)))
 
--- src/lib.rt:375:13
-first-of-requires : tie.Need-first-of-requires
-first-of-requires c κs = search needs
-
--- src/lib.rt:376:9
 end-write-requires : tie.Need-end-write-requires
 end-write-requires c κs =
     let a = c .before .before .before .before .before .before .before .before .before .before .before .before .before .before .before .before .before .before .before .args in
@@ -107,11 +69,6 @@ end-write-requires c κs =
     let f = before-zero w p (sym (c .before .before .before .before .before .before .before .before .before .before .before .before .before .before .before .refused-before .ensures) ∙ z) in
     f .1
 
--- src/lib.rt:349:5
-same-length : tie.Need-same-length
-same-length c = search needs
-
--- src/lib.rt:349:5
 returns-4 : tie.Need-returns-4
 returns-4 c =
     let a = c .before .before .before .before .before .before .before .before .before .before .before .before .before .before .before .before .before .before .before .before .args in
@@ -136,16 +93,16 @@ pub write-str-spec : {M : Type 1} → statement M
 write-str-spec =
     tie.close
     (tie.spec
-    refused-before-requires
+    (λ c κs. search needs)
     returns
-    are-chars-requires
+    (λ c κs. search needs)
     returns-2
-    is-short-requires
+    (λ c κs. search needs)
     returns-3
-    place-of-requires
-    slice-aggregate-run
+    (λ c κs. search needs)
+    (λ c. search needs)
     run-requires
-    first-of-requires
+    (λ c κs. search needs)
     end-write-requires
-    same-length
+    (λ c. search needs)
     returns-4)

@@ -3,10 +3,7 @@ use mathlib.Core.Path.{refl}
 use Rattle.basic_text.specs.Inner.{atPlace}
 use Rattle.basic_text.proofs.writing.at_place.Statement.{statement}
 use Rattle.basic_text.proofs.writing.at_place.Tie as tie
-use Rattle.basic_text.proofs.writing.at_place.Reads as reads
-use Rattle.basic_text.proofs.writing.at_place.Lts as lts
 
--- src/writing.rt:47:1
 returns : tie.Need-returns
 returns c =
     unfold atPlace in refl

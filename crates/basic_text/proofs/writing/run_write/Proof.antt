@@ -15,13 +15,6 @@ use Rattle.basic_text.specs.Exports.{numbers}
 use Rattle.basic_text.specs.Inner.{tail}
 use Rattle.basic_text.proofs.writing.run_write.Statement.{statement}
 use Rattle.basic_text.proofs.writing.run_write.Tie as tie
-use Rattle.basic_text.proofs.writing.run_write.Reads as reads
-use Rattle.basic_text.proofs.writing.run_write.Lts as lts
-use Rattle.basic_text.proofs.writing.finish_bytes.Reads as finish-bytes-reads
-use Rattle.basic_text.proofs.writing.turn_bytes.Reads as turn-bytes-reads
-use Rattle.isolate_unassigned.proofs.IsolateUnassigned.new.Reads as new-reads
-use Rattle.text_write.proofs.is_crlf.Reads as is-crlf-reads
-use Rattle.unicode.proofs.utf8_step.Reads as utf8-step-reads
 
 abbrev Inv-loop : tie.InvT-loop
 Inv-loop page bytes escape₀ queue₀ crlf w₀ isolator₀ place₀ escape queue w isolator place =
@@ -31,33 +24,14 @@ Inv-loop page bytes escape₀ queue₀ crlf w₀ isolator₀ place₀ escape que
 abbrev μ-loop : tie.MeasureT-loop
 μ-loop page bytes escape₀ queue₀ crlf w₀ isolator₀ place₀ escape queue w isolator place = length bytes - place
 
--- src/writing.rt:160:9
-is-crlf-requires : tie.Need-is-crlf-requires Inv-loop μ-loop
-is-crlf-requires c κs = search needs
-
--- src/writing.rt:162:9
-new-requires : tie.Need-new-requires Inv-loop μ-loop
-new-requires c κs = search needs
-
--- src/writing.rt:164:5
 loop-holds : tie.Need-loop-holds Inv-loop μ-loop
 loop-holds c =
     let p = c .before .before .before .before .before .before .pre in
     (refl, (refl, record { rest = _; left = left-begin _; going = rw (c .new .ensures) (begin _ _ _ _ _ _ (p .1 .0) (p .1 .1 .0)) }))
 
--- src/writing.rt:165:45
-utf8-step-requires : tie.Need-utf8-step-requires Inv-loop μ-loop
-utf8-step-requires c κs = search needs
-
--- src/writing.rt:165:28
-enum-known-c : tie.Need-enum-known-c Inv-loop μ-loop
-enum-known-c c = search needs
-
--- src/writing.rt:166:13
 enum-told : tie.Need-enum-told Inv-loop μ-loop
 enum-told c = search needs
 
--- src/writing.rt:169:13
 turn-bytes-requires : tie.Need-turn-bytes-requires Inv-loop μ-loop
 turn-bytes-requires c κs =
     let s = c .before .before .before .before .before .before .before .before .before .before .before .before .before in
@@ -70,16 +44,10 @@ turn-bytes-requires c κs =
     let room = rw (is, ← c .before .before .before .before .before .before .before .before .is-crlf .ensures) at (p .1 .1 .1) in
     (p .0, (g .is-sound, (g .long, turn-room _ _ _ _ _ _ _ _ _ _ _ _ g room)))
 
--- src/writing.rt:173:24
-enum-known-pushed : tie.Need-enum-known-pushed Inv-loop μ-loop
-enum-known-pushed c = search needs
-
--- src/writing.rt:164:5
 loop-less : tie.Need-loop-less Inv-loop μ-loop
 loop-less c =
     omega (arith, step-on _ _ _ _ (sym (c .before .before .before .before .before .before .before .before .before .before .before .before .before .before .utf8-step .ensures) ∙ c .before .before .before .before .before .before .before .before .before .before .before .before .c .given .1))
 
--- src/writing.rt:164:5
 loop-again : tie.Need-loop-again Inv-loop μ-loop
 loop-again c =
     let i = c .before .before .before .before .before .before .before .before .before .before .before .before .before .before .before .loop .inv .1 .1 in
@@ -98,21 +66,14 @@ loop-again c =
       ),
     )
 
--- src/writing.rt:178:17
-enum-told-2 : tie.Need-enum-told-2 Inv-loop μ-loop
-enum-told-2 c = search needs
-
--- src/writing.rt:178:17
 same-length : tie.Need-same-length Inv-loop μ-loop
 same-length c =
     omega (arith, c .before .before .before .before .before .before .before .before .before .before .before .before .before .before .before .before .before .before .before .before .before .pre .1 .1 .0, c .before .before .before .before .before .before .before .before .before .before .before .before .before .before .loop .inv .1 .1 .going .long)
 
--- src/writing.rt:178:17
 same-length-2 : tie.Need-same-length-2 Inv-loop μ-loop
 same-length-2 c =
     omega (arith, c .before .before .before .before .before .before .before .before .before .before .before .before .before .before .loop .inv .1 .0)
 
--- src/writing.rt:178:17
 returns : tie.Need-returns Inv-loop μ-loop
 returns c =
     let s = c .before .before .before .before .before .before .before .before .before .before .before .before .before .before .before .before .before .before .before .before .before in
@@ -128,7 +89,6 @@ returns c =
       t .1 .1 ∙ c .before .before .before .before .before .before .before .before .before .before .before .before .before .before .loop .inv .0,
     )
 
--- src/writing.rt:182:5
 finish-bytes-requires : tie.Need-finish-bytes-requires Inv-loop μ-loop
 finish-bytes-requires c κs =
     let s = c .before .before .before .before .before .before .before .before .before .before .before .before in
@@ -141,17 +101,14 @@ finish-bytes-requires c κs =
     let room = rw (is, ← c .before .before .before .before .before .before .before .is-crlf .ensures) at (p .1 .1 .1) in
     (g .is-sound, (g .long, finish-room _ _ _ _ _ _ _ _ _ _ g room))
 
--- src/writing.rt:145:1
 same-length-3 : tie.Need-same-length-3 Inv-loop μ-loop
 same-length-3 c =
     omega (arith, c .before .before .before .before .before .before .before .before .before .before .before .before .before .before .before .before .before .pre .1 .1 .0, c .before .before .before .before .before .before .before .before .before .before .loop .inv .1 .1 .going .long)
 
--- src/writing.rt:145:1
 same-length-4 : tie.Need-same-length-4 Inv-loop μ-loop
 same-length-4 c =
     omega (arith, c .before .before .before .before .before .before .before .before .before .before .loop .inv .1 .0)
 
--- src/writing.rt:145:1
 returns-2 : tie.Need-returns-2 Inv-loop μ-loop
 returns-2 c =
     let s = c .before .before .before .before .before .before .before .before .before .before .before .before .before .before .before .before .before in
@@ -169,17 +126,17 @@ run-write-spec =
     (tie.spec
     Inv-loop
     μ-loop
-    is-crlf-requires
-    new-requires
+    (λ c κs. search needs)
+    (λ c κs. search needs)
     loop-holds
-    utf8-step-requires
-    enum-known-c
+    (λ c κs. search needs)
+    (λ c. search needs)
     enum-told
     turn-bytes-requires
-    enum-known-pushed
+    (λ c. search needs)
     loop-less
     loop-again
-    enum-told-2
+    (λ c. search needs)
     same-length
     same-length-2
     returns

@@ -1,9 +1,8 @@
 -- `store_numbers` meets its contract: the bytes that are stored are those of numbers of 32 bits.
-use Prim.Native.Nat.{_+_, _≤_}
-use mathlib.Core.Path.{sym, _∙_, ap}
+use mathlib.Core.Path.{_∙_, ap}
 use native.Mathlib.Omega.{arith}
 use denote.Ref.{now}
-use lib.ListN.{length, take}
+use lib.ListN.{take}
 use Rattle.basic_text.specs.Exports.{numbers}
 use Rattle.basic_text.specs.Inner.{tail}
 use Rattle.basic_text.proofs.Laws.{length-numbers}
@@ -11,21 +10,12 @@ use Rattle.basic_text.proofs.Moved.{Wide32, take-wide, take-fits, numbe
 use borrow.Author.Needs.{needs}
 use Rattle.basic_text.proofs.writing.store_numbers.Statement.{statement}
 use Rattle.basic_text.proofs.writing.store_numbers.Tie as tie
-use Rattle.basic_text.proofs.writing.store_numbers.Reads as reads
-use Rattle.basic_text.proofs.writing.store_numbers.Lts as lts
-use Rattle.basic_text.proofs.numbers.write_numbers.Reads as write-numbers-reads
 
--- src/writing.rt:43:5
 write-numbers-requires : tie.Need-write-numbers-requires
 write-numbers-requires c κs =
     let s = c .before .before .before in
     (s .pre .0, omega (arith, s .pre .1, length-numbers (now (s .args .queue))))
 
--- src/writing.rt:37:1
-same-length : tie.Need-same-length
-same-length c = search needs
-
--- src/writing.rt:37:1
 returns : tie.Need-returns
 returns c =
     let s = c .before .before .before .before .before .before in
@@ -38,4 +28,4 @@ returns c =
     )
 
 pub store-numbers-spec : {M : Type 1} → statement M
-store-numbers-spec = tie.close (tie.spec write-numbers-requires same-length returns)
+store-numbers-spec = tie.close (tie.spec write-numbers-requires (λ c. search needs) returns)

@@ -1,7 +1,6 @@
 -- `write` meets its contract: it is refused as the definition says, or it is the write of the decoded characters; the bytes past the
 -- last whole four stay.
-use Prim.Native.Nat.{_≤_}
-use mathlib.Core.Path.{_≡_, refl, sym, _∙_, ap}
+use mathlib.Core.Path.{_≡_, sym, _∙_, ap}
 use native.Mathlib.Omega.{arith}
 use denote.Ref.{now}
 use lib.ListN.{length}
@@ -17,34 +16,11 @@ use Rattle.basic_text.proofs.Moved.{with-tail}
 use borrow.Author.Needs.{needs}
 use Rattle.basic_text.proofs.writing.write.Statement.{statement}
 use Rattle.basic_text.proofs.writing.write.Tie as tie
-use Rattle.basic_text.proofs.writing.write.Reads as reads
-use Rattle.basic_text.proofs.writing.write.Lts as lts
-use Rattle.basic_text.proofs.writing.first_number.Reads as first-number-reads
-use Rattle.basic_text.proofs.writing.run_write.Reads as run-write-reads
-use Rattle.text_write.proofs.bytes_refusal.Reads as bytes-refusal-reads
-use Rattle.text_write.proofs.refused_bytes.Reads as refused-bytes-reads
-use Rattle.text_write.proofs.end_write.Reads as end-write-reads
-use Rattle.text_write.proofs.place_of.Reads as place-of-reads
-use Rattle.text_write.proofs.taking.Reads as taking-reads
-use Rattle.unicode.proofs.valid_prefix.Reads as valid-prefix-reads
 
 -- the record has places for 64 held characters
 long : (s : tie.Start) → length (s .args .w .«escape_sequence») ≡ 64
 long s = search needs
 
--- src/writing.rt:205:9
-valid-prefix-requires : tie.Need-valid-prefix-requires
-valid-prefix-requires c κs = search needs
-
--- src/writing.rt:206:9
-bytes-refusal-requires : tie.Need-bytes-refusal-requires
-bytes-refusal-requires c κs = search needs
-
--- src/writing.rt:213:9
-refused-bytes-requires : tie.Need-refused-bytes-requires
-refused-bytes-requires c κs = search needs
-
--- src/writing.rt:213:9
 returns : tie.Need-returns
 returns c =
     let a = c .before .before .before .before .before .before .before .args in
@@ -61,15 +37,6 @@ returns c =
     let small : Bytes queue = λ i. omega (arith, c .before .before .before .before .slice-known .given i) in
     (is, sym (with-all queue small) ∙ ap (λ (o : BytesOutcome). withNumbers (o .outcome .places) queue) is)
 
--- src/writing.rt:216:34
-place-of-requires : tie.Need-place-of-requires
-place-of-requires c κs = search needs
-
--- src/writing.rt:216:54
-slice-aggregate-run-write : tie.Need-slice-aggregate-run-write
-slice-aggregate-run-write c = search needs
-
--- src/writing.rt:216:9
 run-write-requires : tie.Need-run-write-requires
 run-write-requires c κs =
     let a = c .before .before .before .before .before .before .before .before .before .before .args in
@@ -85,11 +52,6 @@ run-write-requires c κs =
     let cs = charsOf bytes in
     (f .page, (place-sound w r (e .0) (e .1) p cs (f .is-sound), (long (c .before .before .before .before .before .before .before .before .before .before), place-fits w r (e .0) (e .1) p cs (length out) (f .is-sound) (f .fits))))
 
--- src/writing.rt:217:9
-first-number-requires : tie.Need-first-number-requires
-first-number-requires c κs = search needs
-
--- src/writing.rt:218:9
 end-write-requires : tie.Need-end-write-requires
 end-write-requires c κs =
     let a = c .before .before .before .before .before .before .before .before .before .before .before .before .before .before .before .before .args in
@@ -102,15 +64,6 @@ end-write-requires c κs =
     let f = let-through w p bytes out _ no (omega (arith, c .before .before .before .before .before .before .before .before .before .before .if1 .left)) in
     f .page
 
--- src/writing.rt:219:5
-taking-requires : tie.Need-taking-requires
-taking-requires c κs = search needs
-
--- src/writing.rt:196:1
-same-length : tie.Need-same-length
-same-length c = search needs
-
--- src/writing.rt:196:1
 returns-2 : tie.Need-returns-2
 returns-2 c =
     let a = c .before .before .before .before .before .before .before .before .before .before .before .before .before .before .before .before .before .before .args in
@@ -146,15 +99,15 @@ pub write-spec : {M : Type 1} → statement M
 write-spec =
     tie.close
     (tie.spec
-    valid-prefix-requires
-    bytes-refusal-requires
-    refused-bytes-requires
+    (λ c κs. search needs)
+    (λ c κs. search needs)
+    (λ c κs. search needs)
     returns
-    place-of-requires
-    slice-aggregate-run-write
+    (λ c κs. search needs)
+    (λ c. search needs)
     run-write-requires
-    first-number-requires
+    (λ c κs. search needs)
     end-write-requires
-    taking-requires
-    same-length
+    (λ c κs. search needs)
+    (λ c. search needs)
     returns-2)

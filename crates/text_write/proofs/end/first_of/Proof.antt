@@ -8,25 +8,14 @@ use lib.ListN.{length, getD}
 use borrow.Author.Needs.{needs}
 use Rattle.text_write.proofs.end.first_of.Statement.{statement}
 use Rattle.text_write.proofs.end.first_of.Tie as tie
-use Rattle.text_write.proofs.end.first_of.Reads as reads
-use Rattle.text_write.proofs.end.first_of.Lts as lts
 
 none-first : (l : List ℕ) → length l ≡ 0 → 0 ≡ getD l 0 0
 none-first [] h = refl
 none-first (x ∷ l) h = absurd (omega (arith, h))
 
--- src/end.rt:44:9
 returns : tie.Need-returns
 returns c =
     none-first (now (c .before .args .out)) (c .if1 .taken)
 
--- src/end.rt:46:5
-shared-slice-read-result : tie.Need-shared-slice-read-result
-shared-slice-read-result c = search needs
-
--- src/end.rt:40:1
-returns-2 : tie.Need-returns-2
-returns-2 c = search needs
-
 pub first-of-spec : {M : Type 1} → statement M
-first-of-spec = tie.close (tie.spec returns shared-slice-read-result returns-2)
+first-of-spec = tie.close (tie.spec returns (λ c. search needs) (λ c. search needs))

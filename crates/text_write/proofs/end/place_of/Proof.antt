@@ -3,10 +3,7 @@ use mathlib.Core.Path.{refl}
 use Rattle.text_write.specs.Inner.{writerAt}
 use Rattle.text_write.proofs.end.place_of.Statement.{statement}
 use Rattle.text_write.proofs.end.place_of.Tie as tie
-use Rattle.text_write.proofs.end.place_of.Reads as reads
-use Rattle.text_write.proofs.end.place_of.Lts as lts
 
--- src/end.rt:23:1
 returns : tie.Need-returns
 returns c =
     (unfold writerAt in refl, refl)

@@ -1,7 +1,6 @@
 -- `line_end` meets its contract: the 34F that is owed, and 0D 0A behind it, stored as the two steps are.
 use Prim.Native.Nat.{_+_, _≤_}
-use mathlib.Core.Path.{_≡_, refl, sym, _∙_, ap}
-use mathlib.Core.List.{[], _∷_, _++_}
+use mathlib.Core.List.{[]}
 use native.Mathlib.Numerals.{add-one}
 use native.Mathlib.Omega.{arith}
 use denote.Ref.{now}
@@ -13,11 +12,11 @@ use Rattle.text_write.specs.Inner.{writerAt}
 use Rattle.text_write.proofs.Stays.{steps-stay}
 use Rattle.text_write.proofs.Progress.{on-then, off-then, first-fits, next-same, next-room}
 use borrow.Author.Needs.{needs}
-use Rattle.text_write.proofs.run.line_end.Statement.{statement}
-use Rattle.text_write.proofs.run.line_end.Tie as tie
 use Rattle.text_write.proofs.run.line_end.Reads as reads
 use Rattle.text_write.proofs.run.line_end.Lts as lts
 use Rattle.text_write.proofs.run.push_joiner.Reads as push-joiner-reads
+use Rattle.text_write.proofs.run.line_end.Statement.{statement}
+use Rattle.text_write.proofs.run.line_end.Tie as tie
 
 -- where 0D 0A is stored
 abbrev Ends : Type 0
@@ -38,7 +37,6 @@ fits c =
     let same = next-same (a .w) (now (a .escape)) (now (a .out)) first _ (steps-stay (joiner (a .owed)) w [] (p .0)) _ _ _ e in
     omega (arith, room, same)
 
--- src/run.rt:158:9
 push-joiner-requires : tie.Need-push-joiner-requires
 push-joiner-requires c κs =
     let s = c .before .before .before .before in
@@ -47,47 +45,9 @@ push-joiner-requires c κs =
     let first = stepsOf (writerAt (a .w) (now (a .escape))) [] (joiner (a .owed)) in
     (p .0, (p .1 .0, omega (arith, p .1 .1, first-fits first lineEnd)))
 
--- src/run.rt:160:20
-enum-known-before : tie.Need-enum-known-before
-enum-known-before c = search needs
-
--- src/run.rt:163:13
-mul-out : tie.Need-mul-out
-mul-out c = omega (arith, fits c)
-
--- src/run.rt:163:13
-slice-write-out : tie.Need-slice-write-out
-slice-write-out c = omega (arith, fits c)
-
--- src/run.rt:164:17
-add-out : tie.Need-add-out
-add-out c = omega (arith, fits c)
-
--- src/run.rt:164:13
-mul-out-2 : tie.Need-mul-out-2
-mul-out-2 c = omega (arith, fits c)
-
--- src/run.rt:164:13
-slice-write-out-2 : tie.Need-slice-write-out-2
-slice-write-out-2 c = simp length-set (omega (arith, fits c))
-
--- src/run.rt:171:21
-add-t14 : tie.Need-add-t14
-add-t14 c = omega (arith, fits c)
-
--- src/run.rt:174:34
 enum-told : tie.Need-enum-told
 enum-told c = search needs
 
--- src/run.rt:147:1
-same-length : tie.Need-same-length
-same-length c = search needs
-
--- src/run.rt:147:1
-same-length-2 : tie.Need-same-length-2
-same-length-2 c = search needs
-
--- src/run.rt:147:1
 returns : tie.Need-returns
 returns c =
     let s = c .before .before .before .before .before .before .before .before .before .before .before .before in
@@ -96,15 +56,6 @@ returns c =
     let e = rw (c .before .before2 .given .1) at (c .before .before .before .before .before .before .before .push-joiner .ensures) in
     rw (← on-then (a .w .at) (now (a .out)) lineEnd first _ _ _ e) (unfold writerAt in simp add-one)
 
--- src/run.rt:147:1
-same-length-3 : tie.Need-same-length-3
-same-length-3 c = search needs
-
--- src/run.rt:147:1
-same-length-4 : tie.Need-same-length-4
-same-length-4 c = search needs
-
--- src/run.rt:147:1
 returns-2 : tie.Need-returns-2
 returns-2 c =
     let s = c .before .before .before .before .before .before .before .before .before .before .before in
@@ -118,17 +69,17 @@ line-end-spec =
     tie.close
     (tie.spec
     push-joiner-requires
-    enum-known-before
-    mul-out
-    slice-write-out
-    add-out
-    mul-out-2
-    slice-write-out-2
-    add-t14
+    (λ c. search needs)
+    (λ c. omega (arith, fits c))
+    (λ c. omega (arith, fits c))
+    (λ c. omega (arith, fits c))
+    (λ c. omega (arith, fits c))
+    (λ c. simp length-set (omega (arith, fits c)))
+    (λ c. omega (arith, fits c))
     enum-told
-    same-length
-    same-length-2
+    (λ c. search needs)
+    (λ c. search needs)
     returns
-    same-length-3
-    same-length-4
+    (λ c. search needs)
+    (λ c. search needs)
     returns-2)

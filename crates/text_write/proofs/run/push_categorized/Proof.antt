@@ -1,21 +1,14 @@
 -- `push_categorized` meets its contract: an accepted character is pushed, and 1A stops where it stands.
-use mathlib.Core.Path.{_≡_, refl, sym, _∙_, ap}
 use denote.Ref.{now}
 use Rattle.text_write.specs.Inner.{writerAt}
 use Rattle.text_write.proofs.Turns.{no-sub, accepted-step, refused-stored}
 use borrow.Author.Needs.{needs}
 use Rattle.text_write.proofs.run.push_categorized.Statement.{statement}
 use Rattle.text_write.proofs.run.push_categorized.Tie as tie
-use Rattle.text_write.proofs.run.push_categorized.Reads as reads
-use Rattle.text_write.proofs.run.push_categorized.Lts as lts
-use Rattle.text_write.proofs.run.stop_in.Reads as stop-in-reads
-use Rattle.text_write.proofs.store.push.Reads as push-reads
 
--- src/run.rt:110:35
 enum-told : tie.Need-enum-told
 enum-told c = search needs
 
--- src/run.rt:110:24
 push-requires : tie.Need-push-requires
 push-requires c κs =
     let s = c .before .before .before .before .before .before in
@@ -25,23 +18,6 @@ push-requires c κs =
     let room = rw (accepted-step (a .c) (a .found) (p .0) (writerAt (a .w) (now (a .escape))) ok) at (p .1 .1 .1) in
     (no-sub (a .c) (a .found) (p .0) ok, (p .1 .0, (p .1 .1 .0, room)))
 
--- src/run.rt:111:22
-enum-known-found : tie.Need-enum-known-found
-enum-known-found c = search needs
-
--- src/run.rt:113:32
-stop-in-requires : tie.Need-stop-in-requires
-stop-in-requires c κs = search needs
-
--- src/run.rt:99:1
-same-length : tie.Need-same-length
-same-length c = search needs
-
--- src/run.rt:99:1
-same-length-2 : tie.Need-same-length-2
-same-length-2 c = search needs
-
--- src/run.rt:99:1
 returns : tie.Need-returns
 returns c =
     let t = c .before .before .before .before .before .before .before in
@@ -49,7 +25,6 @@ returns c =
     let a = s .args in
     rw (accepted-step (a .c) (a .found) (s .pre .0) (writerAt (a .w) (now (a .escape))) (t .enum-told .given .1)) (c .before .before .before .before .push .ensures)
 
--- src/run.rt:99:1
 returns-2 : tie.Need-returns-2
 returns-2 c =
     let s = c .before .before .before .before .before .before in
@@ -62,9 +37,9 @@ push-categorized-spec =
     (tie.spec
     enum-told
     push-requires
-    enum-known-found
-    stop-in-requires
-    same-length
-    same-length-2
+    (λ c. search needs)
+    (λ c κs. search needs)
+    (λ c. search needs)
+    (λ c. search needs)
     returns
     returns-2)

@@ -1,8 +1,7 @@
 -- `run` meets its contract. The loop's invariant: what is left of the characters leads to the end that all of them lead to. The
 -- measure is how many are left.
-use Prim.Native.Nat.{_+_, _-_, _≤_}
-use mathlib.Core.Path.{_≡_, refl, sym, _∙_, ap}
-use mathlib.Core.List.{[], _∷_, _++_}
+use Prim.Native.Nat.{_-_, _≤_}
+use mathlib.Core.Path.{_≡_}
 use native.Mathlib.Numerals.{add-one}
 use native.Mathlib.Omega.{arith}
 use denote.Ref.{now}
@@ -14,12 +13,6 @@ use Rattle.text_write.proofs.Rest.{run-rest}
 use Rattle.text_write.proofs.Runs.{Going, begin, again, stopped, ended, turn-room, finish-room}
 use Rattle.text_write.proofs.run.run.Statement.{statement}
 use Rattle.text_write.proofs.run.run.Tie as tie
-use Rattle.text_write.proofs.run.run.Reads as reads
-use Rattle.text_write.proofs.run.run.Lts as lts
-use Rattle.isolate_unassigned.proofs.IsolateUnassigned.new.Reads as new-reads
-use Rattle.text_write.proofs.run.finish.Reads as finish-reads
-use Rattle.text_write.proofs.run.turn.Reads as turn-reads
-use Rattle.text_write.proofs.step.is_crlf.Reads as is-crlf-reads
 
 abbrev Inv-loop : tie.InvT-loop
 Inv-loop page chars escape₀ out₀ crlf w₀ isolator₀ i₀ escape out w isolator i =
@@ -28,29 +21,11 @@ Inv-loop page chars escape₀ out₀ crlf w₀ isolator₀ i₀ escape out w iso
 abbrev μ-loop : tie.MeasureT-loop
 μ-loop page chars escape₀ out₀ crlf w₀ isolator₀ i₀ escape out w isolator i = length chars - i
 
--- src/run.rt:252:9
-is-crlf-requires : tie.Need-is-crlf-requires Inv-loop μ-loop
-is-crlf-requires c κs = search needs
-
--- src/run.rt:254:9
-new-requires : tie.Need-new-requires Inv-loop μ-loop
-new-requires c κs = search needs
-
--- src/run.rt:256:5
 loop-holds : tie.Need-loop-holds Inv-loop μ-loop
 loop-holds c =
     let p = c .before .before .before .before .before .before .pre in
     (omega arith, rw (c .new .ensures) (begin _ _ _ _ _ _ (p .1 .0) (p .1 .1 .0)))
 
--- src/run.rt:257:52
-mul-turn : tie.Need-mul-turn Inv-loop μ-loop
-mul-turn c = search needs
-
--- src/run.rt:257:52
-shared-slice-read-turn : tie.Need-shared-slice-read-turn Inv-loop μ-loop
-shared-slice-read-turn c = search needs
-
--- src/run.rt:257:13
 turn-requires : tie.Need-turn-requires Inv-loop μ-loop
 turn-requires c κs =
     let s = c .before .before .before .before .before .before .before .before .before .before .before in
@@ -62,19 +37,6 @@ turn-requires c κs =
     let room = rw (is, ← c .before .before .before .before .before .before .is-crlf .ensures) at (p .1 .1 .1) in
     (p .0, (g .is-sound, (g .long, turn-room _ _ _ _ _ _ _ _ _ _ _ _ g room)))
 
--- src/run.rt:260:9
-add-i : tie.Need-add-i Inv-loop μ-loop
-add-i c = search needs
-
--- src/run.rt:262:24
-enum-known-pushed : tie.Need-enum-known-pushed Inv-loop μ-loop
-enum-known-pushed c = search needs
-
--- src/run.rt:256:5
-loop-less : tie.Need-loop-less Inv-loop μ-loop
-loop-less c = search needs
-
--- src/run.rt:256:5
 loop-again : tie.Need-loop-again Inv-loop μ-loop
 loop-again c =
     let a = c .before .before .before .before .before .before .before .before .before .before .before .before .before .before .before .before .before .before .before .before .args in
@@ -84,19 +46,9 @@ loop-again c =
     let g = rw (drop-cons (now (a .chars)) (l .i) 0 h) at (l .inv .1) in
     (omega (arith, h), rw (t .1, add-one) (again _ _ _ _ _ _ _ _ _ _ _ _ g _ _ _ (rw (c .before .pushed .given .1) at (t .0))))
 
--- src/run.rt:267:17
 enum-told : tie.Need-enum-told Inv-loop μ-loop
 enum-told c = search needs
 
--- src/run.rt:267:17
-same-length : tie.Need-same-length Inv-loop μ-loop
-same-length c = search needs
-
--- src/run.rt:267:17
-same-length-2 : tie.Need-same-length-2 Inv-loop μ-loop
-same-length-2 c = search needs
-
--- src/run.rt:267:17
 returns : tie.Need-returns Inv-loop μ-loop
 returns c =
     let s = c .before .before .before .before .before .before .before .before .before .before .before .before .before .before .before .before .before .before .before in
@@ -108,7 +60,6 @@ returns c =
     rw (is, ← c .before .before .before .before .before .before .before .before .before .before .before .before .before .before .is-crlf .ensures, told)
     (stopped _ _ _ _ _ _ _ _ _ _ _ _ g _ (c .enum-told .given .0 .1 .0) _ _ (rw told at (c .before .before .before .before .before .before .before .turn .ensures .0)))
 
--- src/run.rt:271:5
 finish-requires : tie.Need-finish-requires Inv-loop μ-loop
 finish-requires c κs =
     let s = c .before .before .before .before .before .before .before .before .before .before in
@@ -121,15 +72,6 @@ finish-requires c κs =
     let room = rw (is, ← c .before .before .before .before .before .is-crlf .ensures) at (p .1 .1 .1) in
     (g .is-sound, (g .long, finish-room _ _ _ _ _ _ _ _ _ _ g room))
 
--- src/run.rt:239:1
-same-length-3 : tie.Need-same-length-3 Inv-loop μ-loop
-same-length-3 c = search needs
-
--- src/run.rt:239:1
-same-length-4 : tie.Need-same-length-4 Inv-loop μ-loop
-same-length-4 c = search needs
-
--- src/run.rt:239:1
 returns-2 : tie.Need-returns-2 Inv-loop μ-loop
 returns-2 c =
     let s = c .before .before .before .before .before .before .before .before .before .before .before .before .before .before .before in
@@ -146,21 +88,21 @@ run-spec =
     (tie.spec
     Inv-loop
     μ-loop
-    is-crlf-requires
-    new-requires
+    (λ c κs. search needs)
+    (λ c κs. search needs)
     loop-holds
-    mul-turn
-    shared-slice-read-turn
+    (λ c. search needs)
+    (λ c. search needs)
     turn-requires
-    add-i
-    enum-known-pushed
-    loop-less
+    (λ c. search needs)
+    (λ c. search needs)
+    (λ c. search needs)
     loop-again
     enum-told
-    same-length
-    same-length-2
+    (λ c. search needs)
+    (λ c. search needs)
     returns
     finish-requires
-    same-length-3
-    same-length-4
+    (λ c. search needs)
+    (λ c. search needs)
     returns-2)
