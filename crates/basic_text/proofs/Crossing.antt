@@ -2,12 +2,14 @@
 -- numbers. So a stream's records are handed on from call to call unchanged. Assumes nothing.
 --     record-back     a record as numbers, read again
 --     writer-back     the writer's record as numbers, read again
+--     Wide            each number of a list has 32 bits
 --     numbers-back    numbers as bytes, read again
-use Prim.Native.Nat.{ℕ, _+_, _*_, _<_, _/_, _%_}
+use Prim.Native.Nat.{ℕ, suc, _+_, _*_, _<_, _/_, _%_}
 use mathlib.Core.Path.{_≡_, refl}
 use mathlib.Core.Bool.{Bool, true, false}
 use mathlib.Core.List.{List, [], _∷_}
 use native.Mathlib.Omega.{arith}
+use lib.ListN.{getD}
 use Rattle.text_input.specs.declared.State.{State}
 use Rattle.text_input.specs.declared.State.the-variants.{Ground, Cr, Ff, Esc, CsiStart, Csi, Osc, Linux}
 use Rattle.text_input.specs.declared.TextInput.{TextInput}
@@ -70,8 +72,10 @@ writer-back w =
 
 -- every number has 32 bits
 abbrev pub Wide : List ℕ → Type 0
-Wide [] = Unit {0}
-Wide (n ∷ ns) = (n < 4294967296) × Wide ns
+Wide ns = (i : ℕ) → getD ns i 0 < 4294967296
+
+pub wide-more : (n : ℕ) (ns : List ℕ) → Wide (n ∷ ns) → Wide ns
+wide-more n ns w i = w (suc i)
 
 -- n = n % 256 + 256 × x, x = x % 256 + 256 × y and y = y % 256 + 256 × z
 digits : (n x y z : ℕ) → x ≡ n / 256 → y ≡ x / 256 → z ≡ y / 256 → z < 256 → number (n % 256) (x % 256) (y % 256) (z % 256) ≡ n
@@ -87,4 +91,4 @@ number-back n h = digits n (n / 256) (n / 65536) (n / 16777216) refl (omega arit
 
 pub numbers-back : (ns : List ℕ) → Wide ns → numbers (bytesOf ns) ≡ ns
 numbers-back [] h = refl
-numbers-back (n ∷ ns) h = rw (number-back n (h .0), numbers-back ns (h .1))
+numbers-back (n ∷ ns) h = rw (number-back n (h 0), numbers-back ns (wide-more n ns h))

@@ -1,5 +1,6 @@
 -- Laws on bytes read as numbers. Assumes nothing.
 --     Bytes             each number of a list is a byte
+--     four-more         four more places for each number
 --     length-numbers    a number for every four bytes
 --     numbers-at        the number at a place, by its four bytes
 --     length-bytes      four bytes for every number
@@ -17,7 +18,7 @@ use Rattle.basic_text.specs.Exports.{number, numbers, bytesOf, withNumbe
 abbrev pub Bytes : List ℕ → Type 0
 Bytes bytes = (i : ℕ) → getD bytes i 0 < 256
 
-four-more : (n : ℕ) → 4 * suc n ≡ suc (suc (suc (suc (4 * n))))
+pub four-more : (n : ℕ) → 4 * suc n ≡ suc (suc (suc (suc (4 * n))))
 four-more n = omega arith
 
 pub length-numbers : (bytes : List ℕ) → length (numbers bytes) ≡ length bytes / 4

@@ -1,5 +1,4 @@
 -- Numbers stored in a queue of bytes, as the functions of a write store them. Assumes nothing.
---     Wide32                    each number of a list has 32 bits
 --     numbers-sets, tail-sets    the bytes of numbers, stored, are the numbers stored, and the bytes past the last whole four stay
 --     take-wide, take-fits      the first of some numbers
 --     moved                     what some steps stored in places of their own, moved behind k numbers, is what they store there
@@ -14,13 +13,14 @@ use native.Mathlib.Nat.{zero-add}
 use native.Mathlib.Numerals.{add-one}
 use native.Mathlib.Omega.{arith}
 use lib.Dec.{leb}
-use lib.ListN.{length, getD, take, drop, set}
+use lib.ListN.{length, take, drop, set}
 use lib.Seq.{sets, length-sets, drop-set-lt, length-take-le}
 use borrow.Author.Tests.{leb-true}
 use Rattle.unicode.proofs.Kit.{both-true}
 use Rattle.unicode.proofs.Lists.{sets-filled}
 use Rattle.isolate_unassigned.specs.declared.IsolateUnassigned.{IsolateUnassigned}
 use Rattle.isolate_unassigned.specs.Isolate.{finishOf}
+use Rattle.isolate_unassigned.proofs.Laws.{finish-size}
 use Rattle.text_output.specs.declared.TextOutput.{TextOutput}
 use Rattle.text_write.specs.declared.store.Place.{Place}
 use Rattle.text_write.specs.declared.store.Pushed.{Pushed}
@@ -28,18 +28,12 @@ use Rattle.text_write.specs.declared.store.Pushed.the-variants.{On, Stopped}
 use Rattle.text_output.specs.Writer.{heldIn, sound}
 use Rattle.text_output.specs.Step.{Stepped, stepsOf}
 use Rattle.text_write.specs.Inner.{Progress, writerAt, pushed, stored, progress, turnOf}
-use Rattle.text_write.proofs.Stays.{steps-stay, turn-sound, owed-one}
+use Rattle.text_write.proofs.Stays.{steps-stay, turn-sound}
 use Rattle.basic_text.specs.Exports.{number, numbers, bytesOf, withNumbers}
 use Rattle.basic_text.specs.Inner.{tail, atPlace, placeIn, behindOf}
-use Rattle.basic_text.proofs.Laws.{Bytes, length-numbers, length-bytes, with-all}
+use Rattle.basic_text.proofs.Laws.{Bytes, four-more, length-numbers, length-bytes, with-all}
 use Rattle.basic_text.proofs.Stores.{sets-bytes, take-filled}
-use Rattle.basic_text.proofs.Crossing.{number-back}
-
-abbrev pub Wide32 : List ℕ → Type 0
-Wide32 ns = (i : ℕ) → getD ns i 0 < 4294967296
-
-four-more : (n : ℕ) → 4 * suc n ≡ suc (suc (suc (suc (4 * n))))
-four-more n = omega arith
+use Rattle.basic_text.proofs.Crossing.{Wide, wide-more, number-back}
 
 -- ---- one number
 numbers-set : (q : List ℕ) (k n : ℕ) → n < 4294967296 → 4 * (k + 1) ≤ length q → numbers (sets q (4 * k) (bytesOf (n ∷ []))) ≡ set (numbers q) k n
@@ -52,10 +46,7 @@ numbers-set (a ∷ b ∷ c ∷ d ∷ rest) (suc k) n w h =
     rw (four-more k) (ap (λ (l : List ℕ). number a b c d ∷ l) (numbers-set rest k n w (omega arith)))
 
 -- ---- some numbers
-wide-more : (n : ℕ) (ns : List ℕ) → Wide32 (n ∷ ns) → Wide32 ns
-wide-more n ns w i = w (suc i)
-
-pub numbers-sets : (ns q : List ℕ) (k : ℕ) → Wide32 ns → k + length ns ≤ length (numbers q) →
+pub numbers-sets : (ns q : List ℕ) (k : ℕ) → Wide ns → k + length ns ≤ length (numbers q) →
     numbers (sets q (4 * k) (bytesOf ns)) ≡ sets (numbers q) k ns
 numbers-sets [] q k w h = refl
 numbers-sets (n ∷ ns) q k w h =
@@ -65,7 +56,7 @@ numbers-sets (n ∷ ns) q k w h =
     omega (arith, length-numbers q', length-numbers q, length-sets q (4 * k) (bytesOf (n ∷ []))) in
     rw (sets-bytes (n ∷ []) ns q k) (numbers-sets ns q' (k + 1) (wide-more n ns w) (omega (arith, e)) ∙ rw (one, add-one) refl)
 
-pub take-wide : (n : ℕ) (ns : List ℕ) → Wide32 ns → Wide32 (take n ns)
+pub take-wide : (n : ℕ) (ns : List ℕ) → Wide ns → Wide (take n ns)
 take-wide zero ns w i = omega arith
 take-wide (suc n) [] w i = omega arith
 take-wide (suc n) (x ∷ ns) w zero = w 0
@@ -134,10 +125,10 @@ held-most w s = leb-true (w .held) 64 (both-true (leb (w .held) 64) (heldIn (w .
 
 pub turn-few : (crlf : Bool) (p : List ℕ) (w : TextOutput) (r : IsolateUnassigned) (c : ℕ) → sound w ≡ true →
     length (pushed (turnOf crlf p w r c)) ≤ 67
-turn-few crlf p w r c s = omega (arith, turn-sound crlf p c w r s .size, owed-one r, held-most w s)
+turn-few crlf p w r c s = omega (arith, turn-sound crlf p c w r s .size, finish-size r, held-most w s)
 
 pub finish-few : (w : TextOutput) (r : IsolateUnassigned) → sound w ≡ true → length (pushed (stepsOf w [] (finishOf r))) ≤ 67
-finish-few w r s = omega (arith, steps-stay (finishOf r) w [] s .size, owed-one r, held-most w s)
+finish-few w r s = omega (arith, steps-stay (finishOf r) w [] s .size, finish-size r, held-most w s)
 
 first-place : (w : Place) (escape : List ℕ) → writerAt (atPlace w 0) escape ≡ writerAt w escape
 unfolding writerAt atPlace

@@ -56,17 +56,18 @@ both-wrong : (p q : List ℕ) → accepted p ≡ false → accepted q ≡ false 
 unfolding scanOf refusalOf
 both-wrong p q e f r o chunk queue = simp (e, f)
 
--- a scan by what `fitting` makes of a page is the scan by the page
-scan-fitting : (p : List ℕ) (r : TextInput) (o : Options) (chunk queue : List ℕ) →
-    scanOf r (fitting p) o chunk queue ≡ scanOf r p o chunk queue
+-- what answers alike by any two pages that are not accepted answers alike by a page and by what `fitting` makes of it
+by-fitting : {A : Type 0} (f : List ℕ → A) → ((p q : List ℕ) → accepted p ≡ false → accepted q ≡ false → f p ≡ f q) →
+    (p : List ℕ) → f (fitting p) ≡ f p
 unfolding fitting
-scan-fitting p r o chunk queue =
+by-fitting f alike p =
     by (leb (length p) longest) (λ e. rw e)
-    (λ e. rw e (both-wrong [] p empty-wrong (too-long p (leb-false _ _ e)) r o chunk queue))
+    (λ e. rw e (alike [] p empty-wrong (too-long p (leb-false (length p) longest e))))
 
 pub scan-read : (r s : TextInput) (o u : Options) (p all : List ℕ) (n : ℕ) (chunk queue : List ℕ) → s ≡ r → u ≡ o →
     take n all ≡ fitting p → scanOf s (take (n - 0) (drop 0 all)) u chunk queue ≡ scanOf r p o chunk queue
-scan-read r s o u p all n chunk queue e f g = rw (sub-zero, e, f, g) (scan-fitting p r o chunk queue)
+scan-read r s o u p all n chunk queue e f g = rw (sub-zero, e, f, g)
+    (by-fitting (λ x. scanOf r x o chunk queue) (λ x y a b. both-wrong x y a b r o chunk queue) p)
 
 -- ---- a write
 -- by two pages that are not accepted a write is refused alike
@@ -75,12 +76,6 @@ write-wrong : (p q : List ℕ) → accepted p ≡ false → accepted q ≡ false
 unfolding writeOf writeStrOf writeRefusal
 write-wrong p q e f w bytes queue = by (sound w) (λ s. simp (s, e, f)) (λ s. simp (s, e, f))
 
-write-fitting : (p : List ℕ) (w : TextOutput) (bytes queue : List ℕ) → writeOf w (fitting p) bytes queue ≡ writeOf w p bytes queue
-unfolding fitting
-write-fitting p w bytes queue =
-    by (leb (length p) longest) (λ e. rw e)
-    (λ e. rw e (write-wrong [] p empty-wrong (too-long p (leb-false _ _ e)) w bytes queue))
-
 pub write-read : (w v : TextOutput) (p all : List ℕ) (n : ℕ) (bytes queue : List ℕ) → v ≡ w → take n all ≡ fitting p →
     writeOf v (take (n - 0) (drop 0 all)) bytes queue ≡ writeOf w p bytes queue
-write-read w v p all n bytes queue e g = rw (sub-zero, e, g) (write-fitting p w bytes queue)
+write-read w v p all n bytes queue e g = rw (sub-zero, e, g) (by-fitting (λ x. writeOf w x bytes queue) (λ x y a b. write-wrong x y a b w bytes queue) p)

@@ -1,5 +1,6 @@
 -- What isolation does to any run. Each law is shown of what the steps give from any record on, by the two answers of a step: 34F and
 -- the character, or the character alone. Assumes nothing.
+--     given-size, finish-size    a step gives at most two, and the end one
 --     length-isolate      it needs no more places than `placesFor` says
 --     isolate-puts-in     it puts 34F in, and takes away, changes and moves nothing
 --     isolate-chars       of characters it gives characters
@@ -31,11 +32,11 @@ unfolding stepOf
 step-by P p r c f g = split P (puts p r c) f g
 
 -- ---- the size
-given-size : (s : Isolated) → length (given s) ≤ 2
+pub given-size : (s : Isolated) → length (given s) ≤ 2
 given-size (One c next) = omega arith
 given-size (Two j c next) = omega arith
 
-finish-size : (r : IsolateUnassigned) → length (finishOf r) ≤ 1
+pub finish-size : (r : IsolateUnassigned) → length (finishOf r) ≤ 1
 finish-size r = split (λ (l : List ℕ). length l ≤ 1) (r .«need_cgj») (λ e. omega arith) (λ e. omega arith)
 
 outs-size : (p cs : List ℕ) (r : IsolateUnassigned) → length (outs p r cs) ≤ 2 * length cs + 1

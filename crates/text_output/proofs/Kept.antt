@@ -1,5 +1,6 @@
 -- What a writer keeps goes out first with the next success, and stays kept under a refusal. Idea: no step changes the kept count, and a
 -- write stores behind the kept places alone. Assumes nothing.
+--     mode-keeps          the steps of a write leave the kept count
 --     kept-first          .. in a write of characters
 --     kept-first-bytes    .. in a write of bytes
 use Prim.Native.Nat.{ℕ, suc, _+_, _≤_, _<_}
@@ -27,7 +28,7 @@ use Rattle.text_output.specs.Kept.{KeptFirst}
 
 -- ---- the steps
 -- after some steps the writer keeps k; where one is refused, its first number is not 0
-abbrev Keeps : ℕ → Stepped → Type 0
+abbrev pub Keeps : ℕ → Stepped → Type 0
 Keeps k (goes xs w) = w .kept ≡ k
 Keeps k (stops xs w n) = (w .kept ≡ k) × (0 < getD n 0 0)
 
@@ -90,7 +91,7 @@ module _ (p : List ℕ) (k : ℕ) where
       then-keeps k (runOf p w part) (λ after. moreParts p after rest) (run-keeps w part h) (λ after e. more-keep rest after e)
 
   -- .. in any mode
-  mode-keeps : (m : Mode) (w : TextOutput) (chars : List ℕ) → w .kept ≡ k → Keeps k (runIn m p w chars)
+  pub mode-keeps : (m : Mode) (w : TextOutput) (chars : List ℕ) → w .kept ≡ k → Keeps k (runIn m p w chars)
   mode-keeps Plain w chars h = run-keeps w chars h
   mode-keeps Crlf w chars h = parts-keep (parts chars) w h
   mode-keeps Color w chars h = run-keeps w chars h

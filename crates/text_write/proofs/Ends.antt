@@ -15,6 +15,7 @@ use Rattle.text_output.specs.declared.TextOutput.{TextOutput}
 use Rattle.text_output.specs.Writer.{sound}
 use Rattle.text_output.specs.Step.{Stepped, goes, stops}
 use Rattle.text_output.specs.Write.{runIn, finished, placesFor}
+use Rattle.text_output.proofs.Kept.{Keeps, mode-keeps}
 use Rattle.text_write.specs.Inner.{pushed, writerAfter, stored, isCrlf, endOf}
 use Rattle.text_write.proofs.Rest.{run-rest}
 use Rattle.text_write.proofs.Stays.{Stays, stays-more, rest-stays}
@@ -37,5 +38,9 @@ pub write-fits : (mode : Mode) (p cs : List ℕ) (w : TextOutput) (n : ℕ) → 
     w .kept + length (pushed (runIn mode p w cs)) ≤ n
 write-fits mode p cs w n s h = omega (arith, run-stays mode p cs w s .size)
 
-pub write-keeps : (mode : Mode) (p cs : List ℕ) (w : TextOutput) → sound w ≡ true → writerAfter (runIn mode p w cs) .kept ≡ w .kept
-write-keeps mode p cs w s = run-stays mode p cs w s .kept
+keeps-after : (k : ℕ) (s : Stepped) → Keeps k s → writerAfter s .kept ≡ k
+keeps-after k (goes xs w) h = h
+keeps-after k (stops xs w n) h = h .0
+
+pub write-keeps : (mode : Mode) (p cs : List ℕ) (w : TextOutput) → writerAfter (runIn mode p w cs) .kept ≡ w .kept
+write-keeps mode p cs w = keeps-after (w .kept) (runIn mode p w cs) (mode-keeps p (w .kept) mode w cs refl)

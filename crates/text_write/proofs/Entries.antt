@@ -67,7 +67,7 @@ module _ (w : TextOutput) (p cs places : List ℕ) where
           endOf p (stored (w .kept) places (runIn (w .mode) p w cs)) ≡ writeStrOf w p cs places
       write-ends r =
           rw (write-runs w p cs places s a c r)
-          (sym (finished-end p (runIn (w .mode) p w cs) places (w .kept) (write-keeps (w .mode) p cs w s)))
+          (sym (finished-end p (runIn (w .mode) p w cs) places (w .kept) (write-keeps (w .mode) p cs w)))
 
 -- ---- bytes
 module _ (w : TextOutput) (p bytes places : List ℕ) where

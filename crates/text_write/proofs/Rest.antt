@@ -1,5 +1,6 @@
 -- A write is the same character by character. Idea: a step looks at the error at 1A alone, and there it ends, so the first error of a
 -- run is that of the character at hand. Assumes nothing.
+--     restOf                          what is left of a write, where the isolator stands at a record
 --     andThen-assoc, andThen-alike    steps behind steps behind steps; behind the same steps
 --     steps-append                    the steps of two runs, one behind the other
 --     steps-joiner                    34F, put or not, looks at no error
@@ -26,8 +27,14 @@ use Rattle.text_output.specs.declared.Mode.the-variants.{Plain, Crlf, Color}
 use Rattle.text_output.specs.declared.TextOutput.{TextOutput}
 use Rattle.text_output.specs.Step.{Stepped, goes, stops, behind, andThen, groundStep, escStep, csiStep, stepIn, stepOf, stepsOf}
 use Rattle.text_output.specs.Write.{checked, firstError, runOf, parts, lineEnd, moreParts, partsOf, runIn}
-use Rattle.text_write.specs.Inner.{refusedIn, isCrlf, turnOf, isolatorAfter, restOf}
+use Rattle.text_write.specs.Inner.{refusedIn, isCrlf, turnOf, isolatorAfter}
 use Rattle.text_write.proofs.Asked.{step-asked}
+
+-- what is left of a write
+unfoldable pub restOf : Bool → List ℕ → TextOutput → IsolateUnassigned → List ℕ → Stepped
+restOf crlf p w r [] = stepsOf w [] (finishOf r)
+restOf crlf p w r (c ∷ cs) =
+    andThen (turnOf crlf p w r c) (λ next. restOf crlf p next (isolatorAfter crlf p r c) cs)
 
 -- ---- steps behind steps
 behind-behind : (xs ys : List ℕ) (s : Stepped) → behind (xs ++ ys) s ≡ behind xs (behind ys s)

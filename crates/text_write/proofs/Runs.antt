@@ -13,7 +13,7 @@ use lib.ListN.{length}
 use Rattle.unicode.specs.declared.utf8.Utf8Step.the-variants.{Char, Stop as NoChar}
 use Rattle.unicode.specs.Utf8.{charsFrom, charsOf}
 use Rattle.unicode.specs.Utf8.{stepOf as utf8Step}
-use Rattle.unicode.proofs.Texts.{step-on}
+use Rattle.unicode.proofs.Texts.{step-on, stop-from}
 use Rattle.isolate_unassigned.specs.declared.IsolateUnassigned.{IsolateUnassigned}
 use Rattle.isolate_unassigned.specs.Isolate.{fresh, finishOf}
 use Rattle.text_output.specs.declared.TextOutput.{TextOutput}
@@ -22,7 +22,8 @@ use Rattle.text_write.specs.declared.store.Stop.{Stop}
 use Rattle.text_write.specs.declared.store.Pushed.the-variants.{On, Stopped}
 use Rattle.text_output.specs.Writer.{sound}
 use Rattle.text_output.specs.Step.{Stepped, andThen, stepsOf}
-use Rattle.text_write.specs.Inner.{Progress, writerAt, pushed, stored, progress, turnOf, isolatorAfter, restOf}
+use Rattle.text_write.specs.Inner.{Progress, writerAt, pushed, stored, progress, turnOf, isolatorAfter}
+use Rattle.text_write.proofs.Rest.{restOf}
 use Rattle.text_write.proofs.Stays.{turn-sound}
 use Rattle.text_write.proofs.Progress.{on-then, off-then, first-fits, same-end, next-sound, next-long, next-same}
 
@@ -114,12 +115,8 @@ left-on bytes place c next cs l e = on (l .most) (l .enough) (l .is)
           left = record { most = n; enough = omega (arith, o); is = refl };
         }
 
-stop-from : (n : ℕ) (bytes : List ℕ) (place : ℕ) → utf8Step bytes place ≡ NoChar → charsFrom n bytes place ≡ []
-stop-from zero bytes place e = refl
-stop-from (suc n) bytes place e = rw e
-
 pub left-stop : (bytes : List ℕ) (place : ℕ) (cs : List ℕ) → Left bytes place cs → utf8Step bytes place ≡ NoChar → cs ≡ []
-left-stop bytes place cs l e = sym (l .is) ∙ stop-from (l .most) bytes place e
+left-stop bytes place cs l e = sym (l .is) ∙ stop-from bytes (l .most) place e
 
 -- at the head of the loop over bytes
 pub record GoingBytes (p : List ℕ) (crlf : Bool) (start : Place) (escape₀ out₀ bytes : List ℕ) (w : Place) (r : IsolateUnassigned)

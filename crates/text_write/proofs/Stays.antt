@@ -1,6 +1,6 @@
 -- What steps leave as it was, and how much they add. Idea: a step hands out or holds at most one character more than it got, or hands
 -- out the held ones and one. Assumes nothing.
---     Stays         a sound record stays sound, its kept count and its places for held characters stay, and it hands out and holds at
+--     Stays         a sound record stays sound, its places for held characters stay, and it hands out and holds at
 --                   most so many characters more
 --     stays-then    steps behind steps
 --     steps-stay    of a run, its length
@@ -13,14 +13,13 @@ use native.Mathlib.Omega.{arith}
 use lib.Dec.{eqb, leb, ltb}
 use lib.ListN.{length, take, length-append, length-take, length-set}
 use borrow.Author.Tests.{eqb-true, ltb-true, leb-true, le-leb}
-use Rattle.unicode.proofs.Kit.{by, both-true, both, split}
+use Rattle.unicode.proofs.Kit.{by, both-true, both}
 use Rattle.check_char.specs.Check.{checkNumbers}
 use Rattle.isolate_unassigned.specs.declared.IsolateUnassigned.{IsolateUnassigned}
-use Rattle.isolate_unassigned.specs.declared.Isolated.{Isolated}
-use Rattle.isolate_unassigned.specs.declared.Isolated.the-variants.{One, Two}
 use Rattle.isolate_unassigned.specs.Isolate.{fresh, given, after, finishOf}
 use Rattle.isolate_unassigned.specs.Isolate.{stepOf as isolatedBy}
 use Rattle.text_utils.specs.Classes.{basicTextEnd}
+use Rattle.isolate_unassigned.proofs.Laws.{given-size, finish-size}
 use Rattle.text_output.specs.declared.State.{State}
 use Rattle.text_output.specs.declared.State.the-variants.{Ground, Esc, Csi}
 use Rattle.text_output.specs.declared.TextOutput.{TextOutput}
@@ -29,13 +28,12 @@ use Rattle.text_write.specs.declared.step.Step.the-variants.{Out, Hold, 
 use Rattle.text_output.specs.Writer.{heldIn, sound}
 use Rattle.text_output.specs.Step.{Stepped, goes, stops, behind, andThen, isColor, stepOf, stepsOf}
 use Rattle.text_output.specs.Write.{checked, lineEnd}
-use Rattle.text_write.specs.Inner.{askedIn, pushed, writerAfter, turnOf, isolatorAfter, restOf}
+use Rattle.text_write.specs.Inner.{askedIn, pushed, writerAfter, turnOf, isolatorAfter}
 use Rattle.text_write.proofs.Asked.{doneBy, step-asked}
-use Rattle.text_write.proofs.Rest.{refused-stops}
+use Rattle.text_write.proofs.Rest.{restOf, refused-stops}
 
 pub record Stays (n : ℕ) (w : TextOutput) (s : Stepped) : Type 0 where
   pub is-sound : sound (writerAfter s) ≡ true
-  pub kept : writerAfter s .kept ≡ w .kept
   pub long : length (writerAfter s .«escape_sequence») ≡ length (w .«escape_sequence»)
   pub size : length (pushed s) + writerAfter s .held ≤ w .held + n
 
@@ -49,7 +47,7 @@ after-behind xs (goes ys w) = refl
 after-behind xs (stops ys w n) = refl
 
 pub stays-more : (n m : ℕ) (w : TextOutput) (s : Stepped) → n ≤ m → Stays n w s → Stays m w s
-stays-more n m w s h t = record { is-sound = t .is-sound; kept = t .kept; long = t .long; size = omega (arith, t .size) }
+stays-more n m w s h t = record { is-sound = t .is-sound; long = t .long; size = omega (arith, t .size) }
 
 pub stays-then : (n m : ℕ) (w : TextOutput) (s : Stepped) (more : TextOutput → Stepped) → Stays n w s →
     ((v : TextOutput) → sound v ≡ true → Stays m v (more v)) → Stays (n + m) w (andThen s more)
@@ -57,7 +55,6 @@ stays-then n m w (goes xs v) more t f =
     let u = f v (t .is-sound) in
     record {
       is-sound = rw (after-behind xs (more v)) (u .is-sound);
-      kept = rw (after-behind xs (more v)) (u .kept ∙ t .kept);
       long = rw (after-behind xs (more v)) (u .long ∙ t .long);
       size = rw (after-behind xs (more v), pushed-behind xs (more v)) (omega (arith, u .size, t .size, length-append xs (pushed (more v))));
     }
@@ -96,24 +93,23 @@ asked-fits Csi w c h =
 
 done-stays : (a : Step) (w : TextOutput) (c : ℕ) → sound w ≡ true → fits a (w .held) ≡ true → Stays 1 w (doneBy a w c)
 unfolding fits
-done-stays (Out g) w c s f = record { is-sound = refl; kept = refl; long = refl; size = omega arith }
-done-stays (Hold t) w c s f = record { is-sound = f; kept = refl; long = length-set (w .«escape_sequence») (w .held) c; size = omega arith }
+done-stays (Out g) w c s f = record { is-sound = refl; long = refl; size = omega arith }
+done-stays (Hold t) w c s f = record { is-sound = f; long = length-set (w .«escape_sequence») (w .held) c; size = omega arith }
 done-stays Whole w c s f =
     let e = w .«escape_sequence» in
     record {
       is-sound = refl;
-      kept = refl;
       long = refl;
       size = omega (arith, length-append (take (w .held) e) (c ∷ []), length-take (w .held) e);
     }
-done-stays NoColor w c s f = record { is-sound = s; kept = refl; long = refl; size = omega arith }
-done-stays Unrecognized w c s f = record { is-sound = s; kept = refl; long = refl; size = omega arith }
-done-stays Full w c s f = record { is-sound = s; kept = refl; long = refl; size = omega arith }
+done-stays NoColor w c s f = record { is-sound = s; long = refl; size = omega arith }
+done-stays Unrecognized w c s f = record { is-sound = s; long = refl; size = omega arith }
+done-stays Full w c s f = record { is-sound = s; long = refl; size = omega arith }
 
 pub step-stays : (w : TextOutput) (error : List ℕ) (c : ℕ) → sound w ≡ true → Stays 1 w (stepOf w error c)
 step-stays w error c s =
     by (eqb c 0x1A)
-    (λ e. rw (eqb-true c 0x1A e, refused-stops w error) (record { is-sound = s; kept = refl; long = refl; size = omega arith }))
+    (λ e. rw (eqb-true c 0x1A e, refused-stops w error) (record { is-sound = s; long = refl; size = omega arith }))
     (λ e.
     let a = askedIn (w .state) (w .mode) (w .held) c in
     rw (step-asked w error c e a refl)
@@ -122,21 +118,14 @@ step-stays w error c s =
 -- ---- a run
 pub steps-stay : (cs : List ℕ) (w : TextOutput) (error : List ℕ) → sound w ≡ true → Stays (length cs) w (stepsOf w error cs)
 unfolding stepsOf
-steps-stay [] w error s = record { is-sound = s; kept = refl; long = refl; size = omega arith }
+steps-stay [] w error s = record { is-sound = s; long = refl; size = omega arith }
 steps-stay (c ∷ cs) w error s =
     stays-more (1 + length cs) (length (c ∷ cs)) w _ (omega arith)
     (stays-then 1 (length cs) w (stepOf w error c) _ (step-stays w error c s) (λ v t. steps-stay cs v error t))
 
 -- ---- a write
-given-two : (s : Isolated) → length (given s) ≤ 2
-given-two (One c next) = omega arith
-given-two (Two j c next) = omega arith
-
-pub owed-one : (r : IsolateUnassigned) → length (finishOf r) ≤ 1
-owed-one r = split (λ (l : List ℕ). length l ≤ 1) (r .«need_cgj») (λ e. omega arith) (λ e. omega arith)
-
 pub line-end-stays : (w : TextOutput) → Stays 2 w (lineEnd w)
-line-end-stays w = record { is-sound = refl; kept = refl; long = refl; size = omega arith }
+line-end-stays w = record { is-sound = refl; long = refl; size = omega arith }
 
 module _ (crlf : Bool) (p : List ℕ) (c : ℕ) where
   -- where 0A ends a part, and where not
@@ -151,7 +140,7 @@ module _ (crlf : Bool) (p : List ℕ) (c : ℕ) where
   unfolding turnOf
   turn-stays-on w r s e =
       let g = given (isolatedBy p r (checked c)) in
-      rw e (stays-more (length g) 2 w _ (given-two (isolatedBy p r (checked c))) (steps-stay g w (checkNumbers c) s))
+      rw e (stays-more (length g) 2 w _ (given-size (isolatedBy p r (checked c))) (steps-stay g w (checkNumbers c) s))
 
   pub turn-sound : (w : TextOutput) (r : IsolateUnassigned) → sound w ≡ true → Stays (length (finishOf r) + 2) w (turnOf crlf p w r c)
   turn-sound w r s =
@@ -172,5 +161,5 @@ rest-stays crlf p (c ∷ cs) w r s =
     let next = after (isolatedBy p r (checked c)) in
     let rest = 3 * length cs + length (finishOf next) in
     rw e
-    (stays-more (2 + rest) _ w _ (omega (arith, owed-one next))
+    (stays-more (2 + rest) _ w _ (omega (arith, finish-size next))
     (stays-then 2 rest w _ _ (turn-stays-on crlf p c w r s e) (λ v t. rest-stays crlf p cs v next t))))

@@ -132,12 +132,6 @@ turnOf crlf p w r c =
 unfoldable pub isolatorAfter : Bool → List ℕ → IsolateUnassigned → ℕ → IsolateUnassigned
 isolatorAfter crlf p r c = cond (crlf && eqb c 0x0A) fresh (after (isolatedBy p r (checked c)))
 
--- what is left of a write
-unfoldable pub restOf : Bool → List ℕ → TextOutput → IsolateUnassigned → List ℕ → Stepped
-restOf crlf p w r [] = stepsOf w [] (finishOf r)
-restOf crlf p w r (c ∷ cs) =
-    andThen (turnOf crlf p w r c) (λ next. restOf crlf p next (isolatorAfter crlf p r c) cs)
-
 -- ---- the entries' parts
 -- 9, then 2; 0 where neither refuses
 abbrev pub refusedBefore : TextOutput → List ℕ → ℕ

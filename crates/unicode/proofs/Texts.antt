@@ -147,6 +147,11 @@ decode-all bs = take-all (length bs) (charsOf bs) (length-from (length bs) bs 0)
 pub length-decode : (bs out : List ℕ) → length (decodeOf bs out) ≤ length out
 length-decode bs out = omega (arith, length-take (length out) (charsOf bs))
 
+-- no character comes from a stop on
+pub stop-from : (bs : List ℕ) (f at : ℕ) → stepOf bs at ≡ Stop → charsFrom f bs at ≡ []
+stop-from bs zero at e = refl
+stop-from bs (suc f) at e = rw e
+
 module _ (bs : List ℕ) (room : ℕ) where
   -- what is to be decoded into so many places
   abbrev whole : List ℕ
@@ -177,16 +182,12 @@ module _ (bs : List ℕ) (room : ℕ) where
   left-full : (at : ℕ) → left room at ≡ []
   left-full at = let p : room - room ≡ 0 = omega arith in rw p
 
-  stop-from : (f at : ℕ) → stepOf bs at ≡ Stop → charsFrom f bs at ≡ []
-  stop-from zero at e = refl
-  stop-from (suc f) at e = rw e
-
   take-none : (n : ℕ) → _≡_ {A = List ℕ} (take n []) []
   take-none zero = refl
   take-none (suc n) = refl
 
   left-stop : (k at : ℕ) → stepOf bs at ≡ Stop → left k at ≡ []
-  left-stop k at e = rw (stop-from (length bs - k) at e) (take-none (room - k))
+  left-stop k at e = rw (stop-from bs (length bs - k) at e) (take-none (room - k))
 
   pub begin : Going 0 0
   begin = record { low = omega arith; inside = omega arith; fits = omega arith; count = rw (left-begin, zero-add); place = rw (left-begin, zero-add) }

@@ -6,7 +6,8 @@ use lib.ListN.{take}
 use Rattle.basic_text.specs.Exports.{numbers}
 use Rattle.basic_text.specs.Inner.{tail}
 use Rattle.basic_text.proofs.Laws.{length-numbers}
-use Rattle.basic_text.proofs.Moved.{Wide32, take-wide, take-fits, numbers-sets, tail-sets}
+use Rattle.basic_text.proofs.Crossing.{Wide}
+use Rattle.basic_text.proofs.Moved.{take-wide, take-fits, numbers-sets, tail-sets}
 use borrow.Author.Needs.{needs}
 use Rattle.basic_text.proofs.writing.store_numbers.Statement.{statement}
 use Rattle.basic_text.proofs.writing.store_numbers.Tie as tie
@@ -22,7 +23,7 @@ returns c =
     let a = s .args in
     let e = c .before .before .write-numbers .ensures in
     let fits = take-fits (a .k) (a .n) (now (a .from)) _ (s .pre .0) (s .pre .1) in
-    let wide : Wide32 (now (a .from)) = λ i. omega (arith, c .before .before .before .before .shared-slice-known .given i) in (
+    let wide : Wide (now (a .from)) = λ i. omega (arith, c .before .before .before .before .shared-slice-known .given i) in (
       ap numbers e ∙ numbers-sets (take (a .n) (now (a .from))) (now (a .queue)) (a .k) (take-wide (a .n) (now (a .from)) wide) fits,
       ap tail e ∙ tail-sets (take (a .n) (now (a .from))) (now (a .queue)) (a .k) fits,
     )
