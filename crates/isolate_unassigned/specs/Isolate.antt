@@ -68,6 +68,11 @@ placesFor (suc n) = 2 * suc n + 1
 abbrev pub enough : List ℕ → List ℕ → Bool
 enough cs out = leb (placesFor (length cs)) (length out)
 
+-- an answer by document 01's numbers: 0 and how many were written, or the refusal's number
+abbrev pub writtenNumbers : Answer → List ℕ
+writtenNumbers (Written n) = 0 ∷ n ∷ []
+writtenNumbers (Refused n) = n ∷ []
+
 -- the answer, "order 2, 1, 8": 2 for a wrong page, 1 for a value that is no character, 8 for too few places, else how many were written
 abbrev pub isolateAnswer : List ℕ → List ℕ → List ℕ → Answer
 isolateAnswer p cs out =
