@@ -2,10 +2,15 @@
 //     places.rt  the lent places before and after a write
 //     told.rt    what a call answered
 //
+// Flush, close and abandon go through the functions over a lent record, and so through the methods under them.
+//
 // A function that answers is lent list, the places that live with the writer, and before, places for a copy of them.
 mod places;
 mod told;
 
+use lent_output::abandon_by_loan;
+use lent_output::close_by_loan;
+use lent_output::flush_by_loan;
 use protocol::answer;
 use protocol::answer::Why;
 use protocol::blank;
@@ -323,7 +328,7 @@ fn finished(
 // `W abandon`, which ends a claim.
 fn abandon(list: &[u32], out: &mut [u8], at: usize, current: Current) -> Answered {
     let writer = current.writer;
-    let next = writer.abandon();
+    let next = abandon_by_loan(writer);
     let end = told::finished(Answer::Done, front::numbers(list, next.kept), out, at);
     Current::of(next).told(out, end)
 }
@@ -477,8 +482,8 @@ pub fn operate(
             let called = write(unit, stored, numbers, page, before, list, writer);
             tell(called, before, list, out, at, current)
         }
-        Call::Flush => finished(writer.flush(), list, out, at, current),
-        Call::Close => finished(writer.close(), list, out, at, current),
+        Call::Flush => finished(flush_by_loan(writer), list, out, at, current),
+        Call::Close => finished(close_by_loan(writer), list, out, at, current),
         Call::Abandon => abandon(list, out, at, current),
         Call::Claim(place) => claim(words::one_number(line, place), out, at, current),
         Call::Unclaim => unclaim(out, at, current),
