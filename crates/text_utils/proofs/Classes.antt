@@ -4,9 +4,10 @@
 --     end-low              below 600 every character is an end
 --     start-newline ..     on every accepted page 0A, 20 and 34F are starts
 --     end-newline ..       0A, 20 and 34F are ends
+--     class-back           an answer read back from its numbers: no two answers list alike
 use mathlib.Core.Path.{_≡_, refl, sym, _∙_}
 use mathlib.Core.Bool.{Bool, true, false, not, _&&_, _||_, and-true, and-false}
-use mathlib.Core.List.{List}
+use mathlib.Core.List.{List, [], _∷_}
 use Prim.Native.Nat.{ℕ, _≤_, _<_}
 use native.Mathlib.Omega.{arith}
 use lib.Dec.{leb, eqb}
@@ -16,8 +17,10 @@ use Rattle.ranges.specs.Ranges.{member}
 use Rattle.ranges.proofs.Laws.{member-below}
 use Rattle.page.specs.Page.{accepted, nonstarter}
 use Rattle.page.proofs.PageLaws.{facts-of-accepted}
+use Rattle.text_utils.specs.declared.Class.{Class}
+use Rattle.text_utils.specs.declared.Class.the-variants.{Is, Refused}
 use Rattle.text_utils.specs.Tables.{graphemeExtend, emojiModifier, spacingMark, spacingMarkExceptions}
-use Rattle.text_utils.specs.Classes.{listed, starter, graphemeExtendNotCgj, spacingMarkPlus, basicTextStart, basicTextEnd}
+use Rattle.text_utils.specs.Classes.{listed, starter, graphemeExtendNotCgj, spacingMarkPlus, basicTextStart, basicTextEnd, classNumbers}
 use Rattle.text_utils.proofs.Rising.{high-extend, high-emoji, high-spacing, high-repha, high-prefixed, high-prepended}
 
 -- being m, as a range of one character
@@ -71,3 +74,14 @@ end-space = sym (end-low 0x20 (omega arith))
 
 pub end-joiner : basicTextEnd 0x34f ≡ true
 end-joiner = sym (end-low 0x34f (omega arith))
+
+-- the answer of these numbers
+abbrev classOf : List ℕ → Class
+classOf [] = Refused 0
+classOf (n ∷ []) = Refused n
+classOf (n ∷ b ∷ ns) = Is (eqb b 1)
+
+pub class-back : (a : Class) → classOf (classNumbers a) ≡ a
+class-back (Is true) = refl
+class-back (Is false) = refl
+class-back (Refused n) = refl

@@ -1,6 +1,8 @@
--- Each table rises strictly and its ranges never overlap: one test that antt computes for each. The Rust's two tables that
--- differ from Unicode's are Unicode's without the characters that the Rust leaves out. Assumes nothing.
+-- "In the grapheme and spacing-mark tables each list rises strictly and its ranges never overlap": one test that antt computes for
+-- each table, and the law of any rising list. The Rust's two tables that differ from Unicode's are Unicode's without the characters
+-- that the Rust leaves out. Assumes nothing.
 --     TABLE-rises                        what `in_ranges` asks of the table
+--     strictly                           so every table, Unicode's and the Rust's, rises strictly, and its ranges never overlap
 --     no-cgj, no-cgj-rises               Grapheme_Extend without CGJ
 --     as-in-rust, as-in-rust-rises       Prepended_Concatenation_Mark without 890 and 891
 --     high-TABLE                         the table has no character below 300, or below 600
@@ -8,13 +10,10 @@ use mathlib.Core.Path.{_≡_, refl}
 use mathlib.Core.Bool.{true}
 use mathlib.Core.List.{List}
 use Prim.Native.Nat.{ℕ}
-use Rattle.ranges.specs.Ranges.{firstsOf, lastsOf, rises}
+use Rattle.ranges.specs.Ranges.{firstsOf, lastsOf, rises, RisesStrictly}
+use Rattle.ranges.proofs.Laws.{strictly-rising}
 use Rattle.ranges.proofs.Minus.{minus}
 use Rattle.text_utils.specs.Tables.{graphemeExtend, emojiModifier, spacingMark, spacingMarkExceptions, consonantPrecedingRepha, consonantPrefixed, prependedConcatenationMark, privateUse}
-
--- a table rises from m
-abbrev pub Rises : ℕ → List (ℕ × ℕ) → Type 0
-Rises m t = rises m (firstsOf t) (lastsOf t) ≡ true
 
 abbrev pub no-cgj : List (ℕ × ℕ)
 no-cgj = minus 0x34f 0x34f graphemeExtend
@@ -22,60 +21,84 @@ no-cgj = minus 0x34f 0x34f graphemeExtend
 abbrev pub as-in-rust : List (ℕ × ℕ)
 as-in-rust = minus 0x890 0x891 prependedConcatenationMark
 
-pub no-cgj-rises : Rises 0 no-cgj
+pub no-cgj-rises : rises 0 (firstsOf no-cgj) (lastsOf no-cgj) ≡ true
 unfolding rises
 no-cgj-rises = refl
 
-pub as-in-rust-rises : Rises 0 as-in-rust
+pub as-in-rust-rises : rises 0 (firstsOf as-in-rust) (lastsOf as-in-rust) ≡ true
 unfolding rises
 as-in-rust-rises = refl
 
-pub emoji-modifier-rises : Rises 0 emojiModifier
+pub emoji-modifier-rises : rises 0 (firstsOf emojiModifier) (lastsOf emojiModifier) ≡ true
 unfolding rises
 emoji-modifier-rises = refl
 
-pub spacing-mark-rises : Rises 0 spacingMark
+pub spacing-mark-rises : rises 0 (firstsOf spacingMark) (lastsOf spacingMark) ≡ true
 unfolding rises
 spacing-mark-rises = refl
 
-pub spacing-mark-exceptions-rises : Rises 0 spacingMarkExceptions
+pub spacing-mark-exceptions-rises : rises 0 (firstsOf spacingMarkExceptions) (lastsOf spacingMarkExceptions) ≡ true
 unfolding rises
 spacing-mark-exceptions-rises = refl
 
-pub consonant-preceding-repha-rises : Rises 0 consonantPrecedingRepha
+pub consonant-preceding-repha-rises : rises 0 (firstsOf consonantPrecedingRepha) (lastsOf consonantPrecedingRepha) ≡ true
 unfolding rises
 consonant-preceding-repha-rises = refl
 
-pub consonant-prefixed-rises : Rises 0 consonantPrefixed
+pub consonant-prefixed-rises : rises 0 (firstsOf consonantPrefixed) (lastsOf consonantPrefixed) ≡ true
 unfolding rises
 consonant-prefixed-rises = refl
 
-pub private-use-rises : Rises 0 privateUse
+pub private-use-rises : rises 0 (firstsOf privateUse) (lastsOf privateUse) ≡ true
 unfolding rises
 private-use-rises = refl
 
 -- no table that a start is tested by has a character below 300
-pub high-extend : Rises 0x300 graphemeExtend
+pub high-extend : rises 0x300 (firstsOf graphemeExtend) (lastsOf graphemeExtend) ≡ true
 unfolding rises
 high-extend = refl
 
-pub high-emoji : Rises 0x300 emojiModifier
+pub high-emoji : rises 0x300 (firstsOf emojiModifier) (lastsOf emojiModifier) ≡ true
 unfolding rises
 high-emoji = refl
 
-pub high-spacing : Rises 0x300 spacingMark
+pub high-spacing : rises 0x300 (firstsOf spacingMark) (lastsOf spacingMark) ≡ true
 unfolding rises
 high-spacing = refl
 
 -- nor has one that an end is tested by a character below 600
-pub high-repha : Rises 0x600 consonantPrecedingRepha
+pub high-repha : rises 0x600 (firstsOf consonantPrecedingRepha) (lastsOf consonantPrecedingRepha) ≡ true
 unfolding rises
 high-repha = refl
 
-pub high-prefixed : Rises 0x600 consonantPrefixed
+pub high-prefixed : rises 0x600 (firstsOf consonantPrefixed) (lastsOf consonantPrefixed) ≡ true
 unfolding rises
 high-prefixed = refl
 
-pub high-prepended : Rises 0x600 prependedConcatenationMark
+pub high-prepended : rises 0x600 (firstsOf prependedConcatenationMark) (lastsOf prependedConcatenationMark) ≡ true
 unfolding rises
 high-prepended = refl
+
+pub strictly :
+    RisesStrictly (firstsOf no-cgj) (lastsOf no-cgj)
+    × RisesStrictly (firstsOf graphemeExtend) (lastsOf graphemeExtend)
+    × RisesStrictly (firstsOf emojiModifier) (lastsOf emojiModifier)
+    × RisesStrictly (firstsOf spacingMark) (lastsOf spacingMark)
+    × RisesStrictly (firstsOf spacingMarkExceptions) (lastsOf spacingMarkExceptions)
+    × RisesStrictly (firstsOf consonantPrecedingRepha) (lastsOf consonantPrecedingRepha)
+    × RisesStrictly (firstsOf consonantPrefixed) (lastsOf consonantPrefixed)
+    × RisesStrictly (firstsOf as-in-rust) (lastsOf as-in-rust)
+    × RisesStrictly (firstsOf prependedConcatenationMark) (lastsOf prependedConcatenationMark)
+    × RisesStrictly (firstsOf privateUse) (lastsOf privateUse)
+strictly = (
+  strictly-rising 0 _ _ no-cgj-rises,
+  strictly-rising 0x300 _ _ high-extend,
+  strictly-rising 0 _ _ emoji-modifier-rises,
+  strictly-rising 0 _ _ spacing-mark-rises,
+  strictly-rising 0 _ _ spacing-mark-exceptions-rises,
+  strictly-rising 0 _ _ consonant-preceding-repha-rises,
+  strictly-rising 0 _ _ consonant-prefixed-rises,
+  strictly-rising 0 _ _ as-in-rust-rises,
+  strictly-rising 0x600 _ _ high-prepended,
+  strictly-rising 0 _ _ private-use-rises,
+)

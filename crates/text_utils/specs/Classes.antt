@@ -1,7 +1,7 @@
 -- The boundary classes: "Start and end as `is_basic_text_start`, `is_basic_text_end`" of internals/src/text_utils.rs, over the
 -- properties of UAX #44 and the rules of UAX #29, Table 2. They are defined on every number. Assumes nothing.
 use mathlib.Core.Bool.{Bool, not, cond, _&&_, _||_}
-use mathlib.Core.List.{List}
+use mathlib.Core.List.{List, [], _∷_}
 use Prim.Native.Nat.{ℕ}
 use lib.Dec.{leb, ltb, eqb}
 use Rattle.unicode.specs.Chars.{isChar}
@@ -28,7 +28,8 @@ graphemeExtendNotCgj c = listed graphemeExtend c && not (eqb c 0x34f)
 unfoldable pub spacingMarkPlus : ℕ → Bool
 spacingMarkPlus c = eqb c 0xe33 || eqb c 0xeb3 || (listed spacingMark c && not (listed spacingMarkExceptions c))
 
--- `is_basic_text_start`: a starter that is neither ZWJ, nor Extend (CGJ apart), nor SpacingMark
+-- `is_basic_text_start`: a starter that is neither ZWJ, nor Extend (CGJ apart), nor SpacingMark. Extend is Grapheme_Extend = Yes or
+-- Emoji_Modifier = Yes (UAX #29, Table 2)
 unfoldable pub basicTextStart : List ℕ → ℕ → Bool
 basicTextStart p c =
     starter p c
@@ -55,8 +56,17 @@ unfoldable pub isPrivateUse : ℕ → Bool
 isPrivateUse c = listed privateUse c
 
 -- ---- the entries: "Entries on one character give 1 (the start class 2, then 1)"
-abbrev pub startClass : List ℕ → ℕ → Class
-startClass p c = cond (accepted p) (cond (isChar c) (Is (basicTextStart p c)) (Refused 1)) (Refused 2)
+-- whether c is in a class, as a number: 1 where it is, and 0 where not
+abbrev pub flag : Bool → ℕ
+flag b = cond b 1 0
 
-abbrev pub endClass : ℕ → Class
-endClass c = cond (isChar c) (Is (basicTextEnd c)) (Refused 1)
+-- an answer by document 01's numbers: 0 and whether c is in the class, or the refusal's number
+abbrev pub classNumbers : Class → List ℕ
+classNumbers (Is b) = 0 ∷ flag b ∷ []
+classNumbers (Refused n) = n ∷ []
+
+abbrev pub startClass : List ℕ → ℕ → List ℕ
+startClass p c = cond (accepted p) (cond (isChar c) (0 ∷ flag (basicTextStart p c) ∷ []) (1 ∷ [])) (2 ∷ [])
+
+abbrev pub endClass : ℕ → List ℕ
+endClass c = cond (isChar c) (0 ∷ flag (basicTextEnd c) ∷ []) (1 ∷ [])

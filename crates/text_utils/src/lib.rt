@@ -12,7 +12,7 @@ ghost use mathlib.Core.Path.{_≡_};
 ghost use mathlib.Core.Bool.{true, not, _&&_};
 ghost use Rattle.page.specs.Page.{accepted};
 ghost use Rattle.text_utils.specs.Tables.{emojiModifier, spacingMark, spacingMarkExceptions, consonantPrecedingRepha, consonantPrefixed, prependedConcatenationMark};
-ghost use Rattle.text_utils.specs.Classes.{listed, starter, graphemeExtendNotCgj, spacingMarkPlus, basicTextStart, lackedByRust, basicTextEnd, isPrivateUse, startClass, endClass};
+ghost use Rattle.text_utils.specs.Classes.{listed, starter, graphemeExtendNotCgj, spacingMarkPlus, basicTextStart, lackedByRust, basicTextEnd, isPrivateUse, classNumbers, startClass, endClass};
 
 fn is_grapheme_extend_not_cgj(c: u32) -> bool
     ensures { λ r. ⌜ r ≡ graphemeExtendNotCgj c ⌝ }
@@ -162,7 +162,7 @@ pub enum Class {
 
 // Whether the character c may start a text. Total: refuses 2, then 1.
 pub fn start_class(page: &[u32], c: u32) -> Class
-    ensures { λ r. ⌜ r ≡ startClass (now (page .entry)) c ⌝ }
+    ensures { λ r. ⌜ classNumbers r ≡ startClass (now (page .entry)) c ⌝ }
 {
     if is_accepted(page) {
         if is_char(c) {
@@ -175,7 +175,7 @@ pub fn start_class(page: &[u32], c: u32) -> Class
 
 // Whether the character c may end a text. Total: refuses 1.
 pub fn end_class(c: u32) -> Class
-    ensures { λ r. ⌜ r ≡ endClass c ⌝ }
+    ensures { λ r. ⌜ classNumbers r ≡ endClass c ⌝ }
 {
     if is_char(c) {
         return Class::Is(is_basic_text_end(c));

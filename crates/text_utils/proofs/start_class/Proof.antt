@@ -1,7 +1,9 @@
 -- `text_utils::start_class` meets its contract: the page is tested, then the character.
 use mathlib.Core.Path.{sym, ap, _∙_}
+use mathlib.Core.Bool.{Bool}
+use mathlib.Core.List.{[], _∷_}
 use borrow.Author.Needs.{needs}
-use Rattle.text_utils.specs.declared.Class.the-variants.{Is}
+use Rattle.text_utils.specs.Classes.{flag}
 use Rattle.text_utils.proofs.start_class.Statement.{statement}
 use Rattle.text_utils.proofs.start_class.Tie as tie
 
@@ -14,7 +16,7 @@ returns : tie.Need-returns
 returns c =
     let e = c .before in
     let d = e .before .before in
-    ap Is (c .is-basic-text-start .ensures)
+    ap (λ (b : Bool). 0 ∷ flag b ∷ []) (c .is-basic-text-start .ensures)
     ∙ simp (sym (d .before .is-accepted .ensures) ∙ d .if1 .taken, sym (e .before .is-char .ensures) ∙ e .if2 .taken)
 
 returns-2 : tie.Need-returns-2
