@@ -11,7 +11,7 @@ use lib.Dec.{ltb}
 use lib.ListN.{length, take}
 use lib.Seq.{take-append-seam}
 use Rattle.unicode.specs.Chars.{isChar, areChars}
-use Rattle.unicode.specs.Utf8.{encodeOf, encodes, charsOf}
+use Rattle.unicode.specs.Utf8.{encodeOf, encodeAll, charsOf}
 use Rattle.unicode.proofs.Kit.{split, both-true, both}
 use Rattle.unicode.proofs.Texts.{decode-encode}
 use Rattle.text_input.specs.declared.bytes.Filled.the-variants.{Counts, Refused}
@@ -44,8 +44,8 @@ accepted-decodes : (queue buf rest : List ℕ) → areChars queue ≡ true →
 accepted-decodes queue buf rest s t n h =
     let xs = taken (length buf) queue in
     let a : t ≡ length xs = cc in
-    let b : n ≡ length (encodes xs) = cc in
-    rw (a, b, take-append-seam (encodes xs) rest, decode-encode xs (taken-chars (length buf) queue s)) (taken-first (length buf) queue)
+    let b : n ≡ length (encodeAll xs) = cc in
+    rw (a, b, take-append-seam (encodeAll xs) rest, decode-encode xs (taken-chars (length buf) queue s)) (taken-first (length buf) queue)
 
 -- for every queue and buffer
 pub filled-decodes : (queue buf : List ℕ) (t n : ℕ) → fillOf queue buf .given ≡ Counts t n →

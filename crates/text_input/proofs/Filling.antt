@@ -15,14 +15,14 @@ use lib.Dec.{ltb}
 use lib.ListN.{length, getD, take, drop, set, length-append, length-set, drop-of-length-le, take-append-drop}
 use lib.Seq.{sets, sets-eq, length-sets, drop-cons, take-suc-set, drop-set-lt, take-length, drop-length, drop-append-seam, take-append-seam}
 use Rattle.unicode.specs.Chars.{isChar, areChars}
-use Rattle.unicode.specs.Utf8.{encodeOf, encodes, withBytes}
+use Rattle.unicode.specs.Utf8.{encodeOf, continuation, encodeAll, withBytes}
 use Rattle.unicode.proofs.Kit.{by-lt, both-true}
 use Rattle.unicode.proofs.Rows.{length-encode}
 use Rattle.text_input.specs.declared.bytes.Filled.the-variants.{Counts}
-use Rattle.text_input.specs.Fill.{taken, continuation, zeroed, fillOutcome, filledBytes, fillOf}
+use Rattle.text_input.specs.Fill.{taken, zeroed, fillOutcome, filledBytes, fillOf}
 use Rattle.unicode.proofs.Lists.{sets-append, sets-filled}
 
-pub fits : (free : ℕ) (cs : List ℕ) → length (encodes (taken free cs)) ≤ free
+pub fits : (free : ℕ) (cs : List ℕ) → length (encodeAll (taken free cs)) ≤ free
 fits free [] = omega arith
 fits free (c ∷ cs) =
     by-lt free 4 (λ h. simp (lt-ltb free 4 h) (omega arith))
@@ -72,8 +72,8 @@ module _ (queue buf₀ : List ℕ) where
     pub same : length buf ≡ length buf₀
     pub valid : areChars (drop i queue) ≡ true
     pub count : i + length (taken (length buf₀ - k) (drop i queue)) ≡ length (taken (length buf₀) queue)
-    pub place : k + length (encodes (taken (length buf₀ - k) (drop i queue))) ≡ length (filledBytes queue buf₀)
-    pub stored : sets buf k (encodes (taken (length buf₀ - k) (drop i queue))) ≡ sets buf₀ 0 (filledBytes queue buf₀)
+    pub place : k + length (encodeAll (taken (length buf₀ - k) (drop i queue))) ≡ length (filledBytes queue buf₀)
+    pub stored : sets buf k (encodeAll (taken (length buf₀ - k) (drop i queue))) ≡ sets buf₀ 0 (filledBytes queue buf₀)
 
   pub encode-begin : areChars queue ≡ true → Encoding buf₀ 0 0
   encode-begin s =
@@ -114,7 +114,7 @@ module _ (queue buf₀ : List ℕ) where
             valid = char .1;
             count = omega (arith, simp turn at (g .count));
             place = omega (arith, simp (turn, length-append) at (g .place));
-            stored = sym (sets-append (encodeOf c) (encodes (taken (length buf₀ - (k + length (encodeOf c))) (drop (i + 1) queue))) buf k) ∙ rw turn at (g .stored);
+            stored = sym (sets-append (encodeOf c) (encodeAll (taken (length buf₀ - (k + length (encodeOf c))) (drop (i + 1) queue))) buf k) ∙ rw turn at (g .stored);
           })
 
   -- ---- both

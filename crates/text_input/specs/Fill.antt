@@ -1,12 +1,12 @@
 -- Filling bytes: "queue characters are encoded while at least 4 bytes are free; then continuation bytes (80..BF) from there on are
 -- zeroed up to the first other byte. The characters taken and the bytes filled are both returned. Order: 7, 1." Assumes nothing.
 use Prim.Native.Nat.{ℕ, _-_}
-use mathlib.Core.Bool.{Bool, cond, _&&_}
+use mathlib.Core.Bool.{cond}
 use mathlib.Core.List.{List, [], _∷_, _++_}
-use lib.Dec.{leb, ltb}
+use lib.Dec.{ltb}
 use lib.ListN.{length, drop}
 use Rattle.unicode.specs.Chars.{areChars}
-use Rattle.unicode.specs.Utf8.{encodeOf, encodes}
+use Rattle.unicode.specs.Utf8.{encodeOf, continuation, encodeAll}
 use Rattle.text_input.specs.declared.bytes.Filled.{Filled}
 use Rattle.text_input.specs.declared.bytes.Filled.the-variants.{Counts, Refused}
 
@@ -15,11 +15,7 @@ abbrev pub taken : ℕ → List ℕ → List ℕ
 taken free [] = []
 taken free (c ∷ cs) = cond (ltb free 4) [] (c ∷ taken (free - length (encodeOf c)) cs)
 
--- "80..BF"
-unfoldable pub continuation : ℕ → Bool
-continuation b = leb 0x80 b && leb b 0xBF
-
--- "continuation bytes .. are zeroed up to the first other byte"
+-- "continuation bytes (80..BF) from there on are zeroed up to the first other byte"
 abbrev pub zeroed : List ℕ → List ℕ
 zeroed [] = []
 zeroed (b ∷ bs) = cond (continuation b) (0 ∷ zeroed bs) (b ∷ bs)
@@ -34,7 +30,7 @@ fillOutcome given bytes = record { given = given; bytes = bytes }
 
 -- the bytes filled
 abbrev pub filledBytes : List ℕ → List ℕ → List ℕ
-filledBytes qs buf = encodes (taken (length buf) qs)
+filledBytes qs buf = encodeAll (taken (length buf) qs)
 
 -- the queue qs into the buffer buf: "7 a byte buffer under 136", then 1
 unfoldable pub fillOf : List ℕ → List ℕ → FillOutcome

@@ -10,8 +10,8 @@ ghost use Prim.Native.Nat.{_≤_};
 ghost use lib.ListN.{length, take, drop};
 ghost use lib.Seq.{sets};
 ghost use Rattle.unicode.specs.Chars.{areChars};
-ghost use Rattle.unicode.specs.Utf8.{encodes};
-ghost use Rattle.text_input.specs.Fill.{taken, continuation, zeroed, fillOutcome, fillOf};
+ghost use Rattle.unicode.specs.Utf8.{continuation, encodeAll};
+ghost use Rattle.text_input.specs.Fill.{taken, zeroed, fillOutcome, fillOf};
 
 // The characters taken from the queue and the bytes filled, or the number of a refusal.
 pub enum Filled {
@@ -52,8 +52,8 @@ struct Encoded {
 fn encode_queue(queue: &[u32], buf: &mut [u8]) -> Encoded
     requires { ⌜ areChars (now queue) ≡ true ⌝ }
     ensures taken { λ r. ⌜ r .taken ≡ length (taken (length (now (buf .entry))) (now (queue .entry))) ⌝ }
-    ensures filled { λ r. ⌜ r .bytes ≡ length (encodes (taken (length (now (buf .entry))) (now (queue .entry)))) ⌝ }
-    ensures bytes { λ r. ⌜ now (buf .exit) ≡ sets (now (buf .entry)) 0 (encodes (taken (length (now (buf .entry))) (now (queue .entry)))) ⌝ }
+    ensures filled { λ r. ⌜ r .bytes ≡ length (encodeAll (taken (length (now (buf .entry))) (now (queue .entry)))) ⌝ }
+    ensures bytes { λ r. ⌜ now (buf .exit) ≡ sets (now (buf .entry)) 0 (encodeAll (taken (length (now (buf .entry))) (now (queue .entry)))) ⌝ }
 {
     let mut i = 0;
     let mut k = 0;

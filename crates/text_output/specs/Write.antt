@@ -7,7 +7,7 @@ use lib.Dec.{eqb, ltb}
 use lib.ListN.{length, getD}
 use lib.Seq.{sets}
 use Rattle.unicode.specs.Chars.{areChars}
-use Rattle.unicode.specs.Utf8.{encodes, charsOf}
+use Rattle.unicode.specs.Utf8.{encodeAll, charsOf}
 use Rattle.page.specs.Page.{accepted}
 use Rattle.text_utils.specs.Classes.{basicTextStart}
 use Rattle.check_char.specs.Check.{reasonOf, checkNumbers}
@@ -113,7 +113,7 @@ accepts (n ∷ ns) = eqb n 0
 
 -- how many bytes were taken: those of the longest valid prefix, where the write is accepted
 abbrev pub usedBy : List ℕ → List ℕ → ℕ
-usedBy numbers bytes = cond (accepts numbers) (length (encodes (charsOf bytes))) 0
+usedBy numbers bytes = cond (accepts numbers) (length (encodeAll (charsOf bytes))) 0
 
 abbrev pub taking : List ℕ → Outcome → BytesOutcome
 taking bytes o = record { used = usedBy (o .given .numbers) bytes; outcome = o }

@@ -15,7 +15,7 @@ use lib.Dec.{eqb, ltb}
 use lib.ListN.{length, getD}
 use borrow.Author.Tests.{ne-eqb, ltb-false}
 use Rattle.unicode.specs.Chars.{areChars}
-use Rattle.unicode.specs.Utf8.{encodes, charsOf}
+use Rattle.unicode.specs.Utf8.{encodeAll, charsOf}
 use Rattle.unicode.proofs.Kit.{by}
 use Rattle.unicode.proofs.Texts.{longest}
 use Rattle.page.specs.Page.{accepted}
@@ -185,7 +185,7 @@ unfolding abandonOf
 abandoned w = refl
 
 pub taken : (x : WrittenBytes) (y : Written) (n : ℕ) (places bytes : List ℕ) → x .used ≡ cond (accepts (wroteNumbers (y .answer))) n 0 →
-    x .answer ≡ y .answer → x .next ≡ y .next → n ≡ length (encodes (charsOf bytes)) →
+    x .answer ≡ y .answer → x .next ≡ y .next → n ≡ length (encodeAll (charsOf bytes)) →
     bytesOutcome x places ≡ taking bytes (writtenOutcome y places)
 taken x y n places bytes u a m e = rw (u, a, m, e) refl
 

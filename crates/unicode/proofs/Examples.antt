@@ -8,16 +8,16 @@ use native.Mathlib.Omega.{arith}
 use lib.ListN.{length}
 use Rattle.unicode.specs.declared.utf8.Utf8Step.the-variants.{Stop}
 use Rattle.unicode.specs.Chars.{isChar, areChars}
-use Rattle.unicode.specs.Utf8.{encodeOf, encodes, stepOf, charsOf}
+use Rattle.unicode.specs.Utf8.{encodeOf, encodeAll, continuation, stepOf, charsOf}
 use Rattle.unicode.specs.Inner.{moreOf, keptOf}
 use Rattle.unicode.proofs.Steps.{lead-step}
 use Rattle.unicode.proofs.Texts.{decode-encode}
 
 -- the characters encode to the bytes, and the bytes decode to the characters
 abbrev Example : List ℕ → List ℕ → Type 0
-Example cs bs = (encodes cs ≡ bs) × (charsOf bs ≡ cs)
+Example cs bs = (encodeAll cs ≡ bs) × (charsOf bs ≡ cs)
 
-example : (cs bs : List ℕ) → areChars cs ≡ true → encodes cs ≡ bs → Example cs bs
+example : (cs bs : List ℕ) → areChars cs ≡ true → encodeAll cs ≡ bs → Example cs bs
 example cs bs s e = (e, rw (← e) (decode-encode cs s))
 
 -- "A<NOT IDENTICAL TO><ALPHA>."
@@ -42,15 +42,15 @@ stump = example _ _ refl refl
 
 -- C0 80, an overlong form of U+0000
 overlong-nul : stepOf (0xC0 ∷ 0x80 ∷ []) 0 ≡ Stop
-unfolding moreOf keptOf isChar
+unfolding moreOf continuation keptOf isChar
 overlong-nul = sym (lead-step (0xC0 ∷ 0x80 ∷ []) 0 0xC0 (omega arith) refl)
 
 -- ED A1 8C, a surrogate
 surrogate : stepOf (0xED ∷ 0xA1 ∷ 0x8C ∷ []) 0 ≡ Stop
-unfolding moreOf keptOf isChar
+unfolding moreOf continuation keptOf isChar
 surrogate = sym (lead-step (0xED ∷ 0xA1 ∷ 0x8C ∷ []) 0 0xED (omega arith) refl)
 
 -- F4 90 80 80, one past U+10FFFF
 past-the-last : stepOf (0xF4 ∷ 0x90 ∷ 0x80 ∷ 0x80 ∷ []) 0 ≡ Stop
-unfolding moreOf keptOf isChar
+unfolding moreOf continuation keptOf isChar
 past-the-last = sym (lead-step (0xF4 ∷ 0x90 ∷ 0x80 ∷ 0x80 ∷ []) 0 0xF4 (omega arith) refl)

@@ -7,8 +7,9 @@
 --     long2, long3, long4    it has two, three, four bytes from its row on
 --     written                stores of a row's bytes, one by one, write the encoding
 --     encode-done, -full, -no    the answer and the bytes of `encode_utf8`, by its three cases
+--     encoded-back           an answer read back from its numbers
 use Prim.Native.Nat.{ℕ, _+_, _/_, _%_, _≤_, _<_}
-use mathlib.Core.Path.{_≡_, sym, ap, _∙_}
+use mathlib.Core.Path.{_≡_, refl, sym, ap, _∙_}
 use mathlib.Core.Bool.{true, false}
 use mathlib.Core.List.{List, [], _∷_, _++_}
 use native.Mathlib.Omega.{arith}
@@ -16,7 +17,8 @@ use borrow.Author.Tests.{lt-ltb, le-ltb, le-leb, lt-leb}
 use lib.ListN.{length}
 use lib.Seq.{sets, sets-eq}
 use Rattle.unicode.specs.Chars.{isChar}
-use Rattle.unicode.specs.Utf8.{encodeOf, withBytes, encodeAnswer, encodeBytes}
+use Rattle.unicode.specs.Utf8.{encodeOf, encodedNumbers, encodeAnswer, withBytes, encodeBytes}
+use Rattle.unicode.specs.declared.utf8.Encoded.{Encoded}
 use Rattle.unicode.specs.declared.utf8.Encoded.the-variants.{Next, Refused}
 use Rattle.unicode.proofs.Kit.{never, by-lt}
 
@@ -89,11 +91,22 @@ module _ (c : ℕ) where
 
 module _ (c : ℕ) (buf : List ℕ) (at : ℕ) where
   pub encode-done : isChar c ≡ true → at + length (encodeOf c) ≤ length buf
-      → (Next (at + length (encodeOf c)) ≡ encodeAnswer c buf at) × (withBytes (encodeOf c) buf at ≡ encodeBytes c buf at)
-  encode-done p h = let e = le-leb _ _ h in (simp (p, e), simp (p, e))
+      → (encodedNumbers (Next (at + length (encodeOf c))) ≡ encodeAnswer c buf at) × (withBytes (encodeOf c) buf at ≡ encodeBytes c buf at)
+  encode-done p h = let e = le-ltb _ _ h in (simp (p, e), simp (p, e))
 
-  pub encode-full : isChar c ≡ true → length buf < at + length (encodeOf c) → (Refused 8 ≡ encodeAnswer c buf at) × (buf ≡ encodeBytes c buf at)
-  encode-full p h = let e = lt-leb _ _ h in (simp (p, e), simp (p, e))
+  pub encode-full : isChar c ≡ true → length buf < at + length (encodeOf c)
+      → (encodedNumbers (Refused 8) ≡ encodeAnswer c buf at) × (buf ≡ encodeBytes c buf at)
+  encode-full p h = let e = lt-ltb _ _ h in (simp (p, e), simp (p, e))
 
-  pub encode-no : isChar c ≡ false → (Refused 1 ≡ encodeAnswer c buf at) × (buf ≡ encodeBytes c buf at)
+  pub encode-no : isChar c ≡ false → (encodedNumbers (Refused 1) ≡ encodeAnswer c buf at) × (buf ≡ encodeBytes c buf at)
   encode-no p = (simp p, simp p)
+
+-- an answer can be read back from its numbers, so that no two list alike
+abbrev encodedOf : List ℕ → Encoded
+encodedOf [] = Refused 0
+encodedOf (n ∷ []) = Refused n
+encodedOf (n ∷ at ∷ ns) = Next at
+
+pub encoded-back : (a : Encoded) → encodedOf (encodedNumbers a) ≡ a
+encoded-back (Next at) = refl
+encoded-back (Refused n) = refl

@@ -1,7 +1,6 @@
 -- The step finds a character exactly where its encoding stands. Assumes nothing.
 -- The code's tests, as the function `machine` on lists, find each encoding that stands (`complete`), and nothing else
 -- (`sound`). So no two characters stand at one place, and the first found by `stepOf` is the one.
---     Stands          the encoding of the character c stands at a place
 --     step-exactly    the step answers c and the place after it exactly where c stands
 --     step-stops      it stops exactly where nothing stands
 --     past-step, lead-step    the code's tests come to the step
@@ -22,15 +21,10 @@ use Rattle.unicode.specs.declared.utf8.Utf8Step.the-variants.{Char, Stop
 use Rattle.unicode.specs.declared.utf8.Bits.{Bits}
 use Rattle.unicode.specs.declared.utf8.Bits.the-variants.{Read, Broken}
 use Rattle.unicode.specs.Chars.{isChar}
-use Rattle.unicode.specs.Utf8.{encodeOf, begins, stepBelow, stepOf}
+use Rattle.unicode.specs.Utf8.{encodeOf, continuation, begins, Stands, stepBelow, stepOf}
 use Rattle.unicode.specs.Inner.{moreOf, onBits, keptOf, twoOf, threeOf, fourOf}
 use Rattle.unicode.proofs.Kit.{never, by, by-lt, split, both-true, both}
 use Rattle.unicode.proofs.Rows.{char-lt, char-low, row1, row2, row3, row4, by-row, length-encode}
-
--- the encoding of the character c stands at `at`
-pub record Stands (bs : List ℕ) (at c : ℕ) : Type 0 where
-  pub char : isChar c ≡ true
-  pub bytes : begins (encodeOf c) (drop at bs) ≡ true
 
 -- ---- bytes with which a list begins
 pub begins-long : (ws bs : List ℕ) → begins ws bs ≡ true → length ws ≤ length bs
@@ -62,7 +56,7 @@ machine bs at = cond (leb (length bs) at) Stop (leadOf (getD bs at 0) bs at)
 
 -- ---- from an encoding that stands there to what the tests find
 more-of : (bs : List ℕ) (i v t w : ℕ) → t < 64 → getD bs i 0 ≡ 0x80 + t → v * 64 + t ≡ w → moreOf bs i v ≡ Read w
-unfolding moreOf
+unfolding moreOf continuation
 more-of bs i v t w h e k =
     let q : 0x80 + t - 0x80 ≡ t = omega arith in
     simp (e, le-leb 0x80 (0x80 + t) (omega arith), le-leb (0x80 + t) 0xBF (omega arith), q, k)
@@ -147,7 +141,7 @@ record Goes (bs : List ℕ) (i v w : ℕ) : Type 0 where
   value : w ≡ v * 64 + (getD bs i 0 - 0x80)
 
 pub more-is : (bs : List ℕ) (i v w : ℕ) → moreOf bs i v ≡ Read w → (0x80 ≤ getD bs i 0) × (getD bs i 0 ≤ 0xBF) × (w ≡ v * 64 + (getD bs i 0 - 0x80))
-unfolding moreOf
+unfolding moreOf continuation
 more-is bs i v w =
     let b = getD bs i 0 in
     by-lt b 0x80 (λ p. simp (lt-leb 0x80 b p) (λ e. let z : _≡_ {A = ℕ} 0 1 = cc in omega arith))

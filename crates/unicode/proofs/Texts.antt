@@ -21,10 +21,10 @@ use Rattle.unicode.specs.declared.utf8.Prefix.{Prefix}
 use Rattle.unicode.specs.declared.utf8.Utf8Step.{Utf8Step}
 use Rattle.unicode.specs.declared.utf8.Utf8Step.the-variants.{Char, Stop}
 use Rattle.unicode.specs.Chars.{isChar, areChars}
-use Rattle.unicode.specs.Utf8.{encodeOf, encodes, begins, stepOf, onChar, charsFrom, charsOf, Longest, countsOf, decodeOf, decodePlaces}
+use Rattle.unicode.specs.Utf8.{encodeOf, encodeAll, begins, Stands, stepOf, onChar, charsFrom, charsOf, LongestPrefix, countsOf, decodeOf, decodePlaces}
 use Rattle.unicode.proofs.Kit.{never, both-true, both}
 use Rattle.unicode.proofs.Rows.{length-encode}
-use Rattle.unicode.proofs.Steps.{Stands, begins-long, stands-inside, step-exactly}
+use Rattle.unicode.proofs.Steps.{begins-long, stands-inside, step-exactly}
 
 -- ---- bytes with which a list begins
 and-assoc : (a b c : Bool) → a && (b && c) ≡ (a && b) && c
@@ -49,11 +49,11 @@ begins-take (w ∷ ws) (b ∷ bs) h =
     let r = begins-take ws bs (p .1) in
     rw e (ap (λ (l : List ℕ). b ∷ l) r)
 
-encodes-append : (cs ds : List ℕ) → encodes (cs ++ ds) ≡ encodes cs ++ encodes ds
-encodes-append [] ds = refl
-encodes-append (c ∷ cs) ds = rw (append-assoc, encodes-append cs ds)
+encodeAll-append : (cs ds : List ℕ) → encodeAll (cs ++ ds) ≡ encodeAll cs ++ encodeAll ds
+encodeAll-append [] ds = refl
+encodeAll-append (c ∷ cs) ds = rw (append-assoc, encodeAll-append cs ds)
 
-none-of : (cs : List ℕ) → length (encodes cs) ≡ 0 → cs ≡ []
+none-of : (cs : List ℕ) → length (encodeAll cs) ≡ 0 → cs ≡ []
 none-of [] h = refl
 none-of (c ∷ cs) h = absurd (omega (arith, length-encode c, simp length-append at h))
 
@@ -66,7 +66,7 @@ step-on bs at c next e =
 module _ (bs : List ℕ) where
   -- the characters cs stand at `at`, one after the other
   abbrev Runs : ℕ → List ℕ → Type 0
-  Runs at cs = (areChars cs ≡ true) × (begins (encodes cs) (drop at bs) ≡ true)
+  Runs at cs = (areChars cs ≡ true) × (begins (encodeAll cs) (drop at bs) ≡ true)
 
   joins : (at c next : ℕ) (cs : List ℕ) → stepOf bs at ≡ Char c next → Runs next cs → Runs at (c ∷ cs)
   joins at c next cs e r =
@@ -84,7 +84,7 @@ module _ (bs : List ℕ) where
 
   -- what stands there starts with its first character, and goes on with the others
   module _ (at d : ℕ) (ds : List ℕ) (r : Runs at (d ∷ ds)) where
-    parts : (begins (encodeOf d) (drop at bs) ≡ true) × (begins (encodes ds) (drop (at + length (encodeOf d)) bs) ≡ true)
+    parts : (begins (encodeOf d) (drop at bs) ≡ true) × (begins (encodeAll ds) (drop (at + length (encodeOf d)) bs) ≡ true)
     parts = both-true _ _ (rw (begins-append, drop-drop) at (r .1))
 
     first : Stands bs at d
@@ -101,10 +101,10 @@ module _ (bs : List ℕ) where
       let p = starts ds f (at + length (encodeOf d)) (omega (arith, length-encode d)) (others at d ds r) in
       (p .0, rw e (ap (λ (l : List ℕ). d ∷ l) (p .1)))
 
-  size : (cs es : List ℕ) → charsFrom (length bs) bs 0 ≡ cs ++ es → length (encodes (charsFrom (length bs) bs 0)) ≡ length (encodes cs) + length (encodes es)
-  size cs es e = rw (e, encodes-append, length-append)
+  size : (cs es : List ℕ) → charsFrom (length bs) bs 0 ≡ cs ++ es → length (encodeAll (charsFrom (length bs) bs 0)) ≡ length (encodeAll cs) + length (encodeAll es)
+  size cs es e = rw (e, encodeAll-append, length-append)
 
-  pub longest : Longest bs (charsOf bs)
+  pub longest : LongestPrefix bs (charsOf bs)
   unfolding charsOf
   longest =
       record {
@@ -113,22 +113,22 @@ module _ (bs : List ℕ) where
         most = λ ds v s. let p = starts ds (length bs) 0 (omega arith) (v, s) in omega (arith, size ds (p .0) (p .1));
       }
 
-  pub longest-only : (cs : List ℕ) → Longest bs cs → cs ≡ charsOf bs
+  pub longest-only : (cs : List ℕ) → LongestPrefix bs cs → cs ≡ charsOf bs
   unfolding charsOf
   longest-only cs g =
       let p = starts cs (length bs) 0 (omega arith) (g .chars, g .starts) in
       let l = g .most (charsOf bs) (longest .chars) (longest .starts) in
-      let z : length (encodes (p .0)) ≡ 0 = omega (arith, size cs (p .0) (p .1)) in
+      let z : length (encodeAll (p .0)) ≡ 0 = omega (arith, size cs (p .0) (p .1)) in
       sym (p .1 ∙ rw (none-of (p .0) z) (append-nil cs))
 
 -- ---- round trips
-pub decode-encode : (cs : List ℕ) → areChars cs ≡ true → charsOf (encodes cs) ≡ cs
+pub decode-encode : (cs : List ℕ) → areChars cs ≡ true → charsOf (encodeAll cs) ≡ cs
 decode-encode cs s =
-    sym (longest-only (encodes cs) cs
-    (record { chars = s; starts = begins-self (encodes cs); most = λ ds v p. begins-long (encodes ds) (encodes cs) p }))
+    sym (longest-only (encodeAll cs) cs
+    (record { chars = s; starts = begins-self (encodeAll cs); most = λ ds v p. begins-long (encodeAll ds) (encodeAll cs) p }))
 
-pub encode-decode : (bs : List ℕ) → encodes (charsOf bs) ≡ take (length (encodes (charsOf bs))) bs
-encode-decode bs = begins-take (encodes (charsOf bs)) bs (longest bs .starts)
+pub encode-decode : (bs : List ℕ) → encodeAll (charsOf bs) ≡ take (length (encodeAll (charsOf bs))) bs
+encode-decode bs = begins-take (encodeAll (charsOf bs)) bs (longest bs .starts)
 
 -- ---- the loops
 on-length : (f : ℕ) (bs : List ℕ) → ((next : ℕ) → length (charsFrom f bs next) ≤ f) → (r : Utf8Step)
@@ -167,7 +167,7 @@ module _ (bs : List ℕ) (room : ℕ) where
     pub inside : at ≤ length bs
     pub fits : k ≤ room
     pub count : k + length (left k at) ≡ length (whole)
-    pub place : at + length (encodes (left k at)) ≡ length (encodes (whole))
+    pub place : at + length (encodeAll (left k at)) ≡ length (encodeAll (whole))
 
   left-begin : left 0 0 ≡ whole
   unfolding charsOf
@@ -208,7 +208,7 @@ module _ (bs : List ℕ) (room : ℕ) where
   ended : (k at : ℕ) → Going k at → left k at ≡ [] → _≡_ {A = Prefix} (record { chars = k; bytes = at }) (countsOf (whole))
   ended k at g h =
       let p : k ≡ length (whole) = omega (arith, simp h at (g .count)) in
-      let q : at ≡ length (encodes (whole)) = omega (arith, simp h at (g .place)) in
+      let q : at ≡ length (encodeAll (whole)) = omega (arith, simp h at (g .place)) in
       cc
 
 pub ended-all : (bs : List ℕ) (k at : ℕ) → Going bs (length bs) k at → stepOf bs at ≡ Stop → _≡_ {A = Prefix} (record { chars = k; bytes = at }) (countsOf (charsOf bs))

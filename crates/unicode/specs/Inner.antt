@@ -1,4 +1,5 @@
--- What the private functions of src/utf8.rt answer, step by step. No public contract cites this file. Assumes nothing.
+-- What the private functions of src/utf8.rt answer, step by step: the rows of RFC 3629, section 3, read byte by byte. Document 01,
+-- "The shape each place takes": "The UTF-8 step answers an enum". No public contract cites this file. Assumes nothing.
 use Prim.Native.Nat.{ℕ, _+_, _-_, _*_}
 use mathlib.Core.Bool.{cond, _&&_}
 use mathlib.Core.List.{List}
@@ -9,10 +10,11 @@ use Rattle.unicode.specs.declared.utf8.Bits.the-variants.{Read, Broken}
 use Rattle.unicode.specs.declared.utf8.Utf8Step.{Utf8Step}
 use Rattle.unicode.specs.declared.utf8.Utf8Step.the-variants.{Char, Stop}
 use Rattle.unicode.specs.Chars.{isChar}
+use Rattle.unicode.specs.Utf8.{continuation}
 
--- the bits with the six of the byte at i behind them, if it is a continuation byte, 80..BF
+-- the bits with the six of the byte at i behind them, if it is a continuation byte
 unfoldable pub moreOf : List ℕ → ℕ → ℕ → Bits
-moreOf bs i bits = cond (leb 0x80 (getD bs i 0) && leb (getD bs i 0) 0xBF) (Read (bits * 64 + (getD bs i 0 - 0x80))) Broken
+moreOf bs i bits = cond (continuation (getD bs i 0)) (Read (bits * 64 + (getD bs i 0 - 0x80))) Broken
 
 -- goes on with the bits, and stops where a byte is missing
 abbrev pub onBits : Bits → (ℕ → Utf8Step) → Utf8Step

@@ -1,8 +1,9 @@
 -- UTF-8 as RFC 3629 defines it: which bytes encode which character, and what reading and writing them gives.
+-- Decoding into places and encoding at a place are entries that document 01 does not name; encoding gives 1 before 8, as its entries do.
 -- Assumes nothing.
 use Prim.Native.Nat.{ℕ, zero, suc, _+_, _/_, _%_, _≤_}
 use mathlib.Core.Path.{_≡_}
-use mathlib.Core.Bool.{Bool, true, false, cond, _&&_}
+use mathlib.Core.Bool.{Bool, true, false, cond, not, _&&_}
 use mathlib.Core.List.{List, [], _∷_, _++_}
 use lib.ListN.{length, take, drop}
 use lib.Dec.{ltb, leb, eqb}
@@ -25,10 +26,18 @@ encodeOf c =
     (cond (ltb c 0x10000) ((0xE0 + c / 4096) ∷ (0x80 + c / 64 % 64) ∷ (0x80 + c % 64) ∷ [])
     ((0xF0 + c / 262144) ∷ (0x80 + c / 4096 % 64) ∷ (0x80 + c / 64 % 64) ∷ (0x80 + c % 64) ∷ [])))
 
+-- a sequence is an encoding: of some character
+abbrev pub Encoding : List ℕ → Type 0
+Encoding l = (c : ℕ) × (isChar c ≡ true) × (l ≡ encodeOf c)
+
+-- a continuation byte: 10xxxxxx, 80..BF
+unfoldable pub continuation : ℕ → Bool
+continuation b = leb 0x80 b && leb b 0xBF
+
 -- the bytes that encode a list of characters
-abbrev pub encodes : List ℕ → List ℕ
-encodes [] = []
-encodes (c ∷ cs) = encodeOf c ++ encodes cs
+abbrev pub encodeAll : List ℕ → List ℕ
+encodeAll [] = []
+encodeAll (c ∷ cs) = encodeOf c ++ encodeAll cs
 
 -- ---- reading
 -- whether the bytes bs begin with ws
@@ -36,6 +45,11 @@ abbrev pub begins : List ℕ → List ℕ → Bool
 begins [] bs = true
 begins (w ∷ ws) [] = false
 begins (w ∷ ws) (b ∷ bs) = eqb w b && begins ws bs
+
+-- the encoding of the character c stands at `at`
+pub record Stands (bs : List ℕ) (at c : ℕ) : Type 0 where
+  pub char : isChar c ≡ true
+  pub bytes : begins (encodeOf c) (drop at bs) ≡ true
 
 -- the character below n with whose encoding bs begins, and the place after it if bs stands at `at`; Stop where there is none
 unfoldable pub stepBelow : ℕ → List ℕ → ℕ → Utf8Step
@@ -62,14 +76,14 @@ unfoldable pub charsOf : List ℕ → List ℕ
 charsOf bs = charsFrom (length bs) bs 0
 
 -- what the longest valid prefix is: no characters encode to a longer start of bs
-pub record Longest (bs cs : List ℕ) : Type 0 where
+pub record LongestPrefix (bs cs : List ℕ) : Type 0 where
   pub chars : areChars cs ≡ true
-  pub starts : begins (encodes cs) bs ≡ true
-  pub most : (ds : List ℕ) → areChars ds ≡ true → begins (encodes ds) bs ≡ true → length (encodes ds) ≤ length (encodes cs)
+  pub starts : begins (encodeAll cs) bs ≡ true
+  pub most : (ds : List ℕ) → areChars ds ≡ true → begins (encodeAll ds) bs ≡ true → length (encodeAll ds) ≤ length (encodeAll cs)
 
 -- how many characters, and how many bytes they take
 abbrev pub countsOf : List ℕ → Prefix
-countsOf cs = record { chars = length cs; bytes = length (encodes cs) }
+countsOf cs = record { chars = length cs; bytes = length (encodeAll cs) }
 
 -- the characters that are decoded into the places out: those of the longest valid prefix, as many as there are places
 abbrev pub decodeOf : List ℕ → List ℕ → List ℕ
@@ -80,11 +94,19 @@ abbrev pub decodePlaces : List ℕ → List ℕ → List ℕ
 decodePlaces bs out = filled (decodeOf bs out) out
 
 -- ---- writing
--- the answer of encoding c at `at`: 1 for a number that is no character, 8 for too few bytes from there on, else the place after it
-abbrev pub encodeAnswer : ℕ → List ℕ → ℕ → Encoded
+-- an answer by document 01's numbers: 0 and the place after what was written, or the refusal's number
+abbrev pub encodedNumbers : Encoded → List ℕ
+encodedNumbers (Next at) = 0 ∷ at ∷ []
+encodedNumbers (Refused n) = n ∷ []
+
+-- the number of the refusal of c at `at`, and 0 for none: 1 for a number that is no character, 8 for too few bytes from there on
+abbrev pub encodeRefusal : ℕ → List ℕ → ℕ → ℕ
+encodeRefusal c buf at = cond (not (isChar c)) 1 (cond (ltb (length buf) (at + length (encodeOf c))) 8 0)
+
+-- the answer of encoding c at `at`: 0 and the place after it, or the refusal's number
+abbrev pub encodeAnswer : ℕ → List ℕ → ℕ → List ℕ
 encodeAnswer c buf at =
-    cond (isChar c) (cond (leb (at + length (encodeOf c)) (length buf)) (Next (at + length (encodeOf c))) (Refused 8))
-    (Refused 1)
+    cond (eqb (encodeRefusal c buf at) 0) (0 ∷ (at + length (encodeOf c)) ∷ []) (encodeRefusal c buf at ∷ [])
 
 -- the bytes with ws at `at`, and the others as they were
 abbrev pub withBytes : List ℕ → List ℕ → ℕ → List ℕ
@@ -92,4 +114,4 @@ withBytes ws buf at = take at buf ++ ws ++ drop (at + length ws) buf
 
 -- the bytes as encoding leaves them: unchanged by a refusal
 abbrev pub encodeBytes : ℕ → List ℕ → ℕ → List ℕ
-encodeBytes c buf at = cond (isChar c && leb (at + length (encodeOf c)) (length buf)) (withBytes (encodeOf c) buf at) buf
+encodeBytes c buf at = cond (eqb (encodeRefusal c buf at) 0) (withBytes (encodeOf c) buf at) buf

@@ -6,7 +6,7 @@ ghost use mathlib.Core.Bool.{true};
 ghost use Prim.Native.Nat.{_+_, _≤_, _<_};
 ghost use lib.ListN.{length};
 ghost use Rattle.unicode.specs.Chars.{isChar};
-ghost use Rattle.unicode.specs.Utf8.{encodeOf, stepOf, charsOf, countsOf, decodeOf, decodePlaces, encodeAnswer, encodeBytes, withBytes};
+ghost use Rattle.unicode.specs.Utf8.{encodeOf, stepOf, charsOf, countsOf, decodeOf, decodePlaces, encodedNumbers, encodeAnswer, encodeBytes, withBytes};
 ghost use Rattle.unicode.specs.Inner.{moreOf, keptOf, twoOf, threeOf, fourOf};
 
 // What stands at a place: a character with the place after it, or none.
@@ -211,7 +211,7 @@ pub fn write_utf8(c: u32, buf: &mut [u8], at: usize) -> usize
 // Writes the encoding of c at `at`. Total: refuses 1, then 8 where fewer bytes are free from there on than c needs, and
 // then leaves every byte.
 pub fn encode_utf8(c: u32, buf: &mut [u8], at: usize) -> Encoded
-    ensures answer { λ r. ⌜ r ≡ encodeAnswer c (now (buf .entry)) at ⌝ }
+    ensures answer { λ r. ⌜ encodedNumbers r ≡ encodeAnswer c (now (buf .entry)) at ⌝ }
     ensures bytes { λ r. ⌜ now (buf .exit) ≡ encodeBytes c (now (buf .entry)) at ⌝ }
 {
     if is_char(c) {

@@ -1,6 +1,6 @@
 -- `is_continuation` meets its contract: its test is that of `continuation`.
 use mathlib.Core.Path.{refl}
-use Rattle.text_input.specs.Fill.{continuation}
+use Rattle.unicode.specs.Utf8.{continuation}
 use Rattle.text_input.proofs.bytes.is_continuation.Statement.{statement}
 use Rattle.text_input.proofs.bytes.is_continuation.Tie as tie
 

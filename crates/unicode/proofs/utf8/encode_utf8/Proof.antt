@@ -1,8 +1,9 @@
--- `unicode::encode_utf8` meets its contract: its tests tell the three cases of `encodeAnswer` apart.
+-- `unicode::encode_utf8` meets its contract: its tests tell the three cases of `encodeRefusal` apart.
+use Prim.Native.Nat.{ℕ}
 use mathlib.Core.Path.{sym, ap, _∙_}
+use mathlib.Core.List.{[], _∷_}
 use native.Mathlib.Omega.{arith}
 use borrow.Author.Needs.{needs}
-use Rattle.unicode.specs.declared.utf8.Encoded.the-variants.{Next}
 use Rattle.unicode.proofs.Rows.{length-encode, encode-done, encode-full, encode-no}
 use Rattle.unicode.proofs.utf8.encode_utf8.Statement.{statement}
 use Rattle.unicode.proofs.utf8.encode_utf8.Tie as tie
@@ -18,7 +19,7 @@ returns c =
     let d = w .before .before .before .before .before in
     let a = d .before .before .before .args in
     let done = encode-done (a .c) (a .buf .now) (a .at) (sym (d .before .is-char .ensures) ∙ d .if1 .taken) (omega (arith, w .before .before .before .len-utf8 .ensures)) in
-    (ap Next (w .write-utf8 .ensures .0) ∙ done .0, w .write-utf8 .ensures .1 ∙ done .1)
+    (ap (λ (n : ℕ). 0 ∷ n ∷ []) (w .write-utf8 .ensures .0) ∙ done .0, w .write-utf8 .ensures .1 ∙ done .1)
 
 returns-2 : tie.Need-returns-2
 returns-2 c =

@@ -7,13 +7,14 @@ use borrow.Author.Needs.{needs}
 use borrow.Author.Tests.{leb-true}
 use lib.Dec.{leb}
 use lib.ListN.{length, List·getD-eq-default}
+use Rattle.unicode.specs.Utf8.{continuation}
 use Rattle.unicode.specs.Inner.{moreOf}
 use Rattle.unicode.proofs.Kit.{both-true}
 use Rattle.unicode.proofs.utf8.more.Statement.{statement}
 use Rattle.unicode.proofs.utf8.more.Tie as tie
 
 returns : tie.Need-returns
-unfolding moreOf
+unfolding moreOf continuation
 returns c =
     let a = c .before .before .args in
     let past : length (now (a .bytes)) ≤ a .i = omega arith in
@@ -28,11 +29,11 @@ add-t14 c =
     omega (arith, leb-true b 0xBF (both-true (leb 0x80 b) (leb b 0xBF) (c .if2 .taken) .1))
 
 returns-2 : tie.Need-returns-2
-unfolding moreOf
+unfolding moreOf continuation
 returns-2 c = rw (← c .before .wide .ensures) (simp (c .if2 .taken))
 
 returns-3 : tie.Need-returns-3
-unfolding moreOf
+unfolding moreOf continuation
 returns-3 c = rw (← c .before .wide .ensures) (simp (c .if2 .left))
 
 pub more-spec : {M : Type 1} → statement M
