@@ -17,17 +17,17 @@ use lib.ListN.{length}
 use Rattle.unicode.specs.Chars.{isChar, areChars}
 use Rattle.replace.specs.declared.Replaced.{Replaced}
 use Rattle.replace.specs.declared.Replaced.the-variants.{One, Two, Three}
-use Rattle.replace.specs.Table.{any}
+use Rattle.replace.specs.Table.{inSpans}
 use Rattle.replace.specs.Replace.{chars, replaceOf, replacements}
 use Rattle.replace.proofs.Rows.{Piece, _until_, At, here, there, null, not-null, passes, finds, uncovered, covered, or-r, and-i, any-finds, other}
-use Rattle.check_char.specs.Check.{kept, refusals, reasonOf, checkNumbers, clean, all}
+use Rattle.check_char.specs.Check.{excepted, refusals, reasonOf, checkNumbers, clean, all}
 
 line : List Piece
 line = 0 until 0x1b ∷ 0x1c until 0x110000 ∷ []
 
--- the pieces find no row of the check but for those of `kept`
+-- the pieces find no row of the check but for those of `excepted`
 open-test : List Piece → Bool
-open-test = passes (λ r qs. null (uncovered kept qs)) (λ qs. true) refusals
+open-test = passes (λ r qs. null (uncovered excepted qs)) (λ qs. true) refusals
 
 row-test : Replaced → List Piece → Bool
 row-test a qs = null qs || all clean (chars a)
@@ -36,18 +36,18 @@ test : T (passes row-test open-test replacements line)
 unfolding row-test open-test reasonOf line
 test = tt
 
-accepted : {c : ℕ} (qs : List Piece) → At c qs → T (open-test qs) → T (eqb (reasonOf c) 0 || any kept c)
+accepted : {c : ℕ} (qs : List Piece) → At c qs → T (open-test qs) → T (eqb (reasonOf c) 0 || inSpans excepted c)
 unfolding open-test reasonOf
 accepted {c} qs i t =
-    finds (λ r. T (eqb r 0 || any kept c)) (λ r ps. null (uncovered kept ps)) (λ ps. true) 0
-    (λ r ps j u. or-r (eqb r 0) (any kept c) (covered kept ps j u)) (λ ps j u. tt) refusals qs t i
+    finds (λ r. T (eqb r 0 || inSpans excepted c)) (λ r ps. null (uncovered excepted ps)) (λ ps. true) 0
+    (λ r ps j u. or-r (eqb r 0) (inSpans excepted c) (covered excepted ps j u)) (λ ps j u. tt) refusals qs t i
 
 pub replaced-clean : (c : ℕ) → c < 0x110000 → (c ≡ 0x1b → ⊥) → T (all clean (chars (replaceOf c)))
 unfolding replaceOf row-test line
 replaced-clean c h n =
     finds (λ v. T (all clean (chars v))) row-test open-test (One c)
     (λ a qs i t. other (null qs) (all clean (chars a)) (not-null qs i) t)
-    (λ qs i t. and-i (clean c) true (and-i (eqb (reasonOf c) 0 || any kept c) (not (eqb c 0x1b)) (accepted qs i t) (not-T (eqb c 0x1b) (λ e. n (eqb→eq c 0x1b e)))) tt)
+    (λ qs i t. and-i (clean c) true (and-i (eqb (reasonOf c) 0 || inSpans excepted c) (not (eqb c 0x1b)) (accepted qs i t) (not-T (eqb c 0x1b) (λ e. n (eqb→eq c 0x1b e)))) tt)
     replacements line test place
   where
     split : (b : Bool) → (T b → c < 0x1b) → (T (not b) → 0x1b ≤ c) → At c line

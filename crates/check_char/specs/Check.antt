@@ -8,8 +8,8 @@ use lib.Dec.{eqb}
 use Rattle.unicode.specs.Chars.{isChar}
 use Rattle.replace.specs.declared.Replaced.{Replaced}
 use Rattle.replace.specs.declared.Replaced.the-variants.{One, Two, Three}
-use Rattle.replace.specs.Table.{Span, _to_, one, Row, _gives_, lookup, each, any}
-use Rattle.replace.specs.Replace.{replaceOf}
+use Rattle.replace.specs.Table.{Span, _to_, one, Row, _gives_, lookup, each, inSpans}
+use Rattle.replace.specs.Replace.{unassignedReplaced, nonchars, replaceOf}
 use Rattle.check_char.specs.declared.Replacements.{Replacements}
 use Rattle.check_char.specs.declared.BasicTextError.{BasicTextError}
 use Rattle.check_char.specs.declared.BasicTextError.the-variants.{ColorEscapeSequence, ControlCode, DeprecatedFormatChar, Escape, BidiFormatChar, Interlinear, LanguageTag, LineSeparation, NonChar, ParaSeparation, UnneededBOM, OutOfBand, Omit, Beyyal, UnrecognizedEscape, Replacement}
@@ -21,9 +21,10 @@ use Rattle.check_char.specs.declared.Categorized.the-variants.{Char, Sub
 use Rattle.check_char.specs.declared.Answer.{Answer}
 use Rattle.check_char.specs.declared.Answer.the-variants.{Accepted, NotAChar, Refused}
 
--- the ohm, kelvin and angstrom signs, and the CJK compatibility ideographs: refused, though `replace` has no row for them
-abbrev pub kept : List Span
-kept =
+-- "The ideographs excepted are those that `check_basic_text_char` lists", with the ohm, kelvin and angstrom signs: refused, though
+-- `replace` has no row for them
+abbrev pub excepted : List Span
+excepted =
     one 0x2126 ∷ one 0x212a ∷ one 0x212b ∷
     0xf900 to 0xfa0d ∷ one 0xfa10 ∷ one 0xfa12 ∷ 0xfa15 to 0xfa1e ∷ one 0xfa20 ∷ one 0xfa22 ∷
     0xfa25 to 0xfa26 ∷ 0xfa2a to 0xfa6d ∷ 0xfa70 to 0xfad9 ∷ 0x2f800 to 0x2fa1d ∷ []
@@ -33,18 +34,12 @@ abbrev pub refusals : List (Row ℕ)
 refusals =
     -- ControlCode: `c.is_control()` but for newline, tab and ESC
     each (0x0 to 0x8 ∷ 0xb to 0x1a ∷ 0x1c to 0x1f ∷ 0x7f to 0x9f ∷ []) 2
-    -- Replacement: what `replace` has a row for
+    -- Replacement: those with a row in `replace` that have no reason of their own
     (each
     (one 0x149 ∷ one 0x673 ∷ one 0xf77 ∷ one 0xf79 ∷ 0x17a3 to 0x17a4 ∷ 0x2329 to 0x232a ∷
     one 0x2df5 ∷ one 0x111c4 ∷ 0xfb00 to 0xfb06 ∷
-    0x9e4 to 0x9e5 ∷ 0xa64 to 0xa65 ∷ 0xae4 to 0xae5 ∷ 0xb64 to 0xb65 ∷
-    0xbe4 to 0xbe5 ∷ 0xc64 to 0xc65 ∷ 0xce4 to 0xce5 ∷ 0xd64 to 0xd65 ∷ 0x2072 to 0x2073 ∷
-    one 0x1d455 ∷ one 0x1d49d ∷ 0x1d4a0 to 0x1d4a1 ∷ 0x1d4a3 to 0x1d4a4 ∷ 0x1d4a7 to 0x1d4a8 ∷
-    one 0x1d4ad ∷ one 0x1d4ba ∷ one 0x1d4bc ∷ one 0x1d4c4 ∷
-    one 0x1d506 ∷ 0x1d50b to 0x1d50c ∷ one 0x1d515 ∷
-    one 0x1d51d ∷ one 0x1d53a ∷ one 0x1d53f ∷ one 0x1d545 ∷
-    0x1d547 to 0x1d549 ∷ one 0x1d551 ∷ []) 16
-    (each kept 16
+    unassignedReplaced) 16
+    (each excepted 16
     (
     -- LanguageTag, Interlinear, Omit, Beyyal, DeprecatedFormatChar
     one 0xe0001 gives 7 ∷
@@ -57,12 +52,7 @@ refusals =
     one 0x2029 gives 10 ∷
     0x202a to 0x202e gives 5 ∷ 0x2066 to 0x2069 gives 5 ∷
     -- NonChar
-    each
-    (0xfffe to 0xffff ∷ 0x1fffe to 0x1ffff ∷ 0x2fffe to 0x2ffff ∷ 0x3fffe to 0x3ffff ∷
-    0x4fffe to 0x4ffff ∷ 0x5fffe to 0x5ffff ∷ 0x6fffe to 0x6ffff ∷ 0x7fffe to 0x7ffff ∷
-    0x8fffe to 0x8ffff ∷ 0x9fffe to 0x9ffff ∷ 0xafffe to 0xaffff ∷ 0xbfffe to 0xbffff ∷
-    0xcfffe to 0xcffff ∷ 0xdfffe to 0xdffff ∷ 0xefffe to 0xeffff ∷ 0xffffe to 0xfffff ∷
-    0x10fffe to 0x10ffff ∷ 0xfdd0 to 0xfdef ∷ []) 9
+    each nonchars 9
     (
     -- OutOfBand, UnneededBOM
     one 0xfffc gives 12 ∷
@@ -72,20 +62,11 @@ refusals =
 unfoldable pub reasonOf : ℕ → ℕ
 reasonOf c = lookup refusals 0 c
 
--- what a cleaned text may hold: x is accepted, or one of those that the check lists though nothing replaces them; and is no ESC
-abbrev pub clean : ℕ → Bool
-clean x = (eqb (reasonOf x) 0 || any kept x) && not (eqb x 0x1b)
-
--- every number of a list passes a test
-abbrev pub all : (ℕ → Bool) → List ℕ → Bool
-all f [] = true
-all f (x ∷ xs) = f x && all f xs
-
 -- "`Box<[char]>`: three numbers and a count"
-abbrev pub listedOf : Replaced → Replacements
-listedOf (One a) = record { count = 1; first = a; second = 0; third = 0 }
-listedOf (Two a b) = record { count = 2; first = a; second = b; third = 0 }
-listedOf (Three a b c) = record { count = 3; first = a; second = b; third = c }
+abbrev pub threeAndCount : Replaced → Replacements
+threeAndCount (One a) = record { count = 1; first = a; second = 0; third = 0 }
+threeAndCount (Two a b) = record { count = 2; first = a; second = b; third = 0 }
+threeAndCount (Three a b c) = record { count = 3; first = a; second = b; third = c }
 
 -- these four numbers
 abbrev pub listNumbers : Replacements → List ℕ
@@ -108,17 +89,18 @@ errorNumbers OutOfBand = 12 ∷ []
 errorNumbers (Omit c) = 13 ∷ c ∷ []
 errorNumbers Beyyal = 14 ∷ []
 errorNumbers UnrecognizedEscape = 15 ∷ []
-errorNumbers (Replacement y n) = 16 ∷ n ∷ listNumbers y
+errorNumbers (Replacement list c) = 16 ∷ c ∷ listNumbers list
 
 -- the check's answer: 0 where c is accepted, else the reason's number and its values
 abbrev pub reasonNumbers : Checked → List ℕ
 reasonNumbers Ok = 0 ∷ []
 reasonNumbers (Err e) = errorNumbers e
 
--- the values that reason r carries for c: 2, 3 and 13 the character, 16 also its replacements
+-- the values that reason r carries for c: 2, 3 and 13 the character, 16 also its replacements. A character without a row is its own:
+-- "Reason 16 for 2126 names 2126 itself."
 abbrev pub carried : ℕ → ℕ → List ℕ
 carried r c =
-    cond (eqb r 16) (c ∷ listNumbers (listedOf (replaceOf c))) (cond (eqb r 2 || eqb r 3 || eqb r 13) (c ∷ []) [])
+    cond (eqb r 16) (c ∷ listNumbers (threeAndCount (replaceOf c))) (cond (eqb r 2 || eqb r 3 || eqb r 13) (c ∷ []) [])
 
 -- what the check says of c: the reason's number and its values
 unfoldable pub checkNumbers : ℕ → List ℕ
@@ -142,3 +124,13 @@ categorizedNumbers (Sub r) = 4 ∷ 0x1a ∷ reasonNumbers (r .error)
 -- "Each character is checked, refused ones becoming 1A"; an accepted one leaves the record as it is
 abbrev pub categorizeOf : Categorize → ℕ → List ℕ
 categorizeOf r c = cond (eqb (reasonOf c) 0) (0 ∷ c ∷ reasonNumbers (r .error)) (4 ∷ 0x1a ∷ checkNumbers c)
+
+-- ---- a cleaned text
+-- what it may hold: x is accepted, or one of those excepted; and is no ESC
+abbrev pub clean : ℕ → Bool
+clean x = (eqb (reasonOf x) 0 || inSpans excepted x) && not (eqb x 0x1b)
+
+-- every number of a list passes a test
+abbrev pub all : (ℕ → Bool) → List ℕ → Bool
+all f [] = true
+all f (x ∷ xs) = f x && all f xs

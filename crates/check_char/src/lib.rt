@@ -4,7 +4,8 @@ use replace::Replaced;
 use replace::replace;
 use unicode::is_char;
 ghost use mathlib.Core.Path.{_≡_};
-ghost use Rattle.check_char.specs.Check.{reasonOf, listedOf, reasonNumbers, checkNumbers, answerNumbers, checkAnswer, categorizedNumbers, categorizeOf};
+ghost use mathlib.Core.List.{[], _∷_};
+ghost use Rattle.check_char.specs.Check.{reasonOf, threeAndCount, reasonNumbers, checkNumbers, answerNumbers, checkAnswer, categorizedNumbers, categorizeOf};
 
 // The replacements that a reason names, as the Rust's `Box<[char]>`: how many, and three characters, 0 past that many.
 pub struct Replacements {
@@ -147,7 +148,7 @@ fn reason(c: u32) -> u32
 
 // Replacements as three numbers and a count.
 fn listed(r: Replaced) -> Replacements
-    ensures { λ l. ⌜ l ≡ listedOf r ⌝ }
+    ensures { λ l. ⌜ l ≡ threeAndCount r ⌝ }
 {
     match r {
         Replaced::One(a) => Replacements {
@@ -232,7 +233,7 @@ pub enum Categorized {
 impl Categorize {
     // No character was refused yet.
     pub fn new() -> Self
-        ensures { λ r. ⌜ r .error ≡ Checked.Ok ⌝ }
+        ensures { λ r. ⌜ reasonNumbers (r .error) ≡ 0 ∷ [] ⌝ }
     {
         Categorize { error: Checked::Ok }
     }

@@ -11,8 +11,8 @@ use mathlib.Core.Path.{_≡_, _∙_}
 use lib.ListN.{length}
 use Rattle.unicode.specs.Chars.{areChars}
 use Rattle.page.specs.Page.{accepted}
-use Rattle.replace.specs.Table.{any}
-use Rattle.check_char.specs.Check.{kept, clean, all}
+use Rattle.replace.specs.Table.{inSpans}
+use Rattle.check_char.specs.Check.{excepted, clean, all}
 use Rattle.isolate_unassigned.specs.Isolate.{isolateOf}
 use Rattle.text_input.specs.declared.Options.{Options}
 use Rattle.text_input.specs.Scan.{Outcome, fresh}
@@ -67,7 +67,7 @@ module _ (page : List ℕ) (good : accepted page ≡ true) (options : Options) (
   queue-ends : endsWell true queue ≡ true
   queue-ends = rw queue-is (cleaned-ends page pieces)
 
-  module _ (none : all (λ (c : ℕ). not (any kept c)) queue ≡ true) where
+  module _ (none : all (λ (c : ℕ). not (inSpans excepted c)) queue ≡ true) where
     queue-writable : all writable queue ≡ true
     queue-writable = writable-of queue queue-clean none
 

@@ -6,8 +6,8 @@ use mathlib.Core.List.{List, flatten}
 use mathlib.Core.Path.{_≡_}
 use lib.ListN.{length}
 use Rattle.page.specs.Page.{accepted}
-use Rattle.replace.specs.Table.{any}
-use Rattle.check_char.specs.Check.{kept, clean, all}
+use Rattle.replace.specs.Table.{inSpans}
+use Rattle.check_char.specs.Check.{excepted, clean, all}
 use Rattle.isolate_unassigned.specs.Isolate.{isolateOf}
 use Rattle.text_input.specs.declared.Options.{Options}
 use Rattle.text_input.specs.declared.TextInput.{TextInput}
@@ -40,7 +40,7 @@ pub record Promise (page : List ℕ) (options : Options) (calls : List Call) (qu
   pub holds : all clean queue ≡ true
   -- holding none of these, it passes: "The write and the close are on a writer record of their own, the close on the one that the
   -- write returned. Enough room is at least what a write of that length needs."
-  pub passes : all (λ (c : ℕ). not (any kept c)) queue ≡ true →
+  pub passes : all (λ (c : ℕ). not (inSpans excepted c)) queue ≡ true →
       (places : List ℕ) → placesFor (freshWriter Plain) (length queue) ≤ length places →
       (wrote : WriteOutcome) → wrote ≡ writeStrOf (freshWriter Plain) page queue places →
       (closed : Given) → closed ≡ closeOf (wrote .given .next) → Passes (isolateOf page queue) wrote closed
@@ -67,4 +67,4 @@ PassesOthers =
     (page : List ℕ) → accepted page ≡ true → (options : Options) →
     (calls : List Call) → FinishedOnce page options (acceptedFrom 0 calls) →
     (seen : List Outcome) → Seen fresh calls seen →
-    all (λ (c : ℕ). not (any kept c)) (queueOf seen) ≡ true → Others page (queueOf seen)
+    all (λ (c : ℕ). not (inSpans excepted c)) (queueOf seen) ≡ true → Others page (queueOf seen)

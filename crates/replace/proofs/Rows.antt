@@ -10,7 +10,7 @@ use native.Mathlib.Omega.{arith}
 use lib.Dec.{T, leb, ltb, eqb, leb→le, nleb→lt, lt→ltb, eqb→eq, eqb-refl, not-T, T-not, le→leb}
 use mir.Val.{hasKey}
 use types.Run.{OneOf, hit}
-use Rattle.replace.specs.Table.{Span, _to_, one, Row, _gives_, has, any, lookup}
+use Rattle.replace.specs.Table.{Span, _to_, one, Row, _gives_, has, inSpans, lookup}
 
 -- the numbers x with low ≤ x < high
 pub data Piece : Type 0 where
@@ -222,10 +222,10 @@ abbrev pub uncovered : List Span → List Piece → List Piece
 uncovered [] ps = ps
 uncovered (s ∷ ss) ps = uncovered ss (outside s ps)
 
-pub covered : {c : ℕ} (ss : List Span) (ps : List Piece) → At c ps → T (null (uncovered ss ps)) → T (any ss c)
+pub covered : {c : ℕ} (ss : List Span) (ps : List Piece) → At c ps → T (null (uncovered ss ps)) → T (inSpans ss c)
 covered [] ps i t = absurd (not-null ps i t)
 covered {c} (s ∷ ss) ps i t = go (has s c) (λ n. covered ss (outside s ps) (outside-at s ps i n) t) where
-  go : (b : Bool) → (T (not b) → T (any ss c)) → T (b || any ss c)
+  go : (b : Bool) → (T (not b) → T (inSpans ss c)) → T (b || inSpans ss c)
   go true f = tt
   go false f = f tt
 

@@ -1,7 +1,7 @@
 -- What each character is replaced by: `replace` of internals/src/replace.rs, row by row in its order. "Replacement is one
 -- decision over all characters, as `replace` has it; anything else is itself." Assumes nothing.
 use Prim.Native.Nat.{ℕ}
-use mathlib.Core.List.{List, [], _∷_}
+use mathlib.Core.List.{List, [], _∷_, _++_}
 use Rattle.replace.specs.declared.Replaced.{Replaced}
 use Rattle.replace.specs.declared.Replaced.the-variants.{One, Two, Three}
 use Rattle.replace.specs.declared.Answer.{Answer}
@@ -16,6 +16,26 @@ chars (One a) = a ∷ []
 chars (Two a b) = a ∷ b ∷ []
 chars (Three a b c) = a ∷ b ∷ c ∷ []
 
+-- "Unassigned characters with replacements", as `replace` lists them; `check_basic_text_char` has the same list
+abbrev pub unassignedReplaced : List Span
+unassignedReplaced =
+    0x9e4 to 0x9e5 ∷ 0xa64 to 0xa65 ∷ 0xae4 to 0xae5 ∷ 0xb64 to 0xb65 ∷
+    0xbe4 to 0xbe5 ∷ 0xc64 to 0xc65 ∷ 0xce4 to 0xce5 ∷ 0xd64 to 0xd65 ∷ 0x2072 to 0x2073 ∷
+    one 0x1d455 ∷ one 0x1d49d ∷ 0x1d4a0 to 0x1d4a1 ∷ 0x1d4a3 to 0x1d4a4 ∷ 0x1d4a7 to 0x1d4a8 ∷
+    one 0x1d4ad ∷ one 0x1d4ba ∷ one 0x1d4bc ∷ one 0x1d4c4 ∷
+    one 0x1d506 ∷ 0x1d50b to 0x1d50c ∷ one 0x1d515 ∷
+    one 0x1d51d ∷ one 0x1d53a ∷ one 0x1d53f ∷ one 0x1d545 ∷
+    0x1d547 to 0x1d549 ∷ one 0x1d551 ∷ []
+
+-- the noncharacters
+abbrev pub nonchars : List Span
+nonchars =
+    0xfffe to 0xffff ∷ 0x1fffe to 0x1ffff ∷ 0x2fffe to 0x2ffff ∷ 0x3fffe to 0x3ffff ∷
+    0x4fffe to 0x4ffff ∷ 0x5fffe to 0x5ffff ∷ 0x6fffe to 0x6ffff ∷ 0x7fffe to 0x7ffff ∷
+    0x8fffe to 0x8ffff ∷ 0x9fffe to 0x9ffff ∷ 0xafffe to 0xaffff ∷ 0xbfffe to 0xbffff ∷
+    0xcfffe to 0xcffff ∷ 0xdfffe to 0xdffff ∷ 0xefffe to 0xeffff ∷ 0xffffe to 0xfffff ∷
+    0x10fffe to 0x10ffff ∷ 0xfdd0 to 0xfdef ∷ []
+
 -- the characters that U+FFFD replaces
 abbrev pub removed : List Span
 removed =
@@ -25,14 +45,7 @@ removed =
     0x2329 to 0x232a ∷
     -- interlinear annotations
     0xfff9 to 0xfffb ∷
-    -- unassigned characters with replacements
-    0x9e4 to 0x9e5 ∷ 0xa64 to 0xa65 ∷ 0xae4 to 0xae5 ∷ 0xb64 to 0xb65 ∷
-    0xbe4 to 0xbe5 ∷ 0xc64 to 0xc65 ∷ 0xce4 to 0xce5 ∷ 0xd64 to 0xd65 ∷ 0x2072 to 0x2073 ∷
-    one 0x1d455 ∷ one 0x1d49d ∷ 0x1d4a0 to 0x1d4a1 ∷ 0x1d4a3 to 0x1d4a4 ∷ 0x1d4a7 to 0x1d4a8 ∷
-    one 0x1d4ad ∷ one 0x1d4ba ∷ one 0x1d4bc ∷ one 0x1d4c4 ∷
-    one 0x1d506 ∷ 0x1d50b to 0x1d50c ∷ one 0x1d515 ∷
-    one 0x1d51d ∷ one 0x1d53a ∷ one 0x1d53f ∷ one 0x1d545 ∷
-    0x1d547 to 0x1d549 ∷ one 0x1d551 ∷
+    (unassignedReplaced ++
     -- object replacement character
     one 0xfffc ∷
     -- Khmer characters erroneously invented by Unicode
@@ -43,13 +56,7 @@ removed =
     0x202a to 0x202e ∷ 0x2066 to 0x2069 ∷
     -- language tag
     one 0xe0001 ∷
-    -- noncharacters
-    0xfffe to 0xffff ∷ 0x1fffe to 0x1ffff ∷ 0x2fffe to 0x2ffff ∷ 0x3fffe to 0x3ffff ∷
-    0x4fffe to 0x4ffff ∷ 0x5fffe to 0x5ffff ∷ 0x6fffe to 0x6ffff ∷ 0x7fffe to 0x7ffff ∷
-    0x8fffe to 0x8ffff ∷ 0x9fffe to 0x9ffff ∷ 0xafffe to 0xaffff ∷ 0xbfffe to 0xbffff ∷
-    0xcfffe to 0xcffff ∷ 0xdfffe to 0xdffff ∷ 0xefffe to 0xeffff ∷ 0xffffe to 0xfffff ∷
-    0x10fffe to 0x10ffff ∷ 0xfdd0 to 0xfdef ∷
-    []
+    nonchars)
 
 abbrev pub replacements : List (Row Replaced)
 replacements =
@@ -80,6 +87,11 @@ replacements =
 unfoldable pub replaceOf : ℕ → Replaced
 replaceOf c = lookup replacements (One c) c
 
+-- an answer of the entry by document 01's numbers: 0 and the one to three characters, or the refusal's number
+abbrev pub replacementNumbers : Answer → List ℕ
+replacementNumbers (Chars r) = 0 ∷ chars r
+replacementNumbers (Refused n) = n ∷ []
+
 -- "Entries on one character give 1"
-abbrev pub replacementOf : ℕ → Answer
-replacementOf c = cond (isChar c) (Chars (replaceOf c)) (Refused 1)
+abbrev pub replacementOf : ℕ → List ℕ
+replacementOf c = cond (isChar c) (0 ∷ chars (replaceOf c)) (1 ∷ [])

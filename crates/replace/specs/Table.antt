@@ -1,5 +1,6 @@
 -- A decision over numbers, as a list of rows: the numbers from a first to a last, and the answer. The first row that has the
--- number decides. Assumes nothing.
+-- number decides. Document 01, "Leaves": "Replacement is one decision over all characters"; "The shape each place takes": "A match on
+-- the character with single values and ranges". Assumes nothing.
 use Prim.Native.Nat.{ℕ}
 use mathlib.Core.Bool.{Bool, false, _&&_, _||_, cond}
 use mathlib.Core.List.{List, [], _∷_}
@@ -22,9 +23,9 @@ abbrev pub has : Span → ℕ → Bool
 has (a to b) c = leb a c && leb c b
 
 -- one of the spans has c
-abbrev pub any : List Span → ℕ → Bool
-any [] c = false
-any (s ∷ ss) c = has s c || any ss c
+abbrev pub inSpans : List Span → ℕ → Bool
+inSpans [] c = false
+inSpans (s ∷ ss) c = has s c || inSpans ss c
 
 module _ {A : Type 0} where
   -- the answer of the first row that has c, and d where none has

@@ -2,7 +2,7 @@
 // internals/src/replace.rs, arm by arm; what the Rust pushes to a queue is the answer here.
 use unicode::is_char;
 ghost use mathlib.Core.Path.{_≡_};
-ghost use Rattle.replace.specs.Replace.{replaceOf, replacementOf};
+ghost use Rattle.replace.specs.Replace.{replaceOf, replacementNumbers, replacementOf};
 
 // One to three characters.
 pub enum Replaced {
@@ -151,7 +151,7 @@ pub enum Answer {
 
 // What replaces the character c. Total: a number that is no character is refused by 1.
 pub fn replacement(c: u32) -> Answer
-    ensures { λ r. ⌜ r ≡ replacementOf c ⌝ }
+    ensures { λ r. ⌜ replacementNumbers r ≡ replacementOf c ⌝ }
 {
     if is_char(c) {
         return Answer::Chars(replace(c));

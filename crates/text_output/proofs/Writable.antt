@@ -15,8 +15,8 @@ use lib.Dec.{eqb}
 use borrow.Author.Tests.{eqb-true, not-true, ne-eqb}
 use Rattle.unicode.proofs.Kit.{never, by, both-true, both}
 use Rattle.text_utils.specs.Classes.{basicTextEnd}
-use Rattle.replace.specs.Table.{any}
-use Rattle.check_char.specs.Check.{kept, reasonOf, clean, all}
+use Rattle.replace.specs.Table.{inSpans}
+use Rattle.check_char.specs.Check.{excepted, reasonOf, clean, all}
 use Rattle.check_char.proofs.Clean.{accepted-joiner, refused-substitute}
 use Rattle.isolate_unassigned.specs.Isolate.{isolateOf}
 use Rattle.isolate_unassigned.specs.Meaning.{PutIn, none, kept as same, put}
@@ -34,18 +34,18 @@ use Rattle.text_output.specs.Write.{checked, firstError, runOf}
 abbrev pub writable : ℕ → Bool
 writable c = eqb (reasonOf c) 0 && not (eqb c 0x1B)
 
--- r: accepted; k: one of the excepted ones, `kept` of check_char; e: no ESC
+-- r: accepted; k: one of the excepted ones, `excepted` of check_char; e: no ESC
 accepted-of : (r k e : Bool) → (r || k) && e ≡ true → not k ≡ true → r && e ≡ true
 accepted-of true k e h g = h
 accepted-of false true e h g = never g
 accepted-of false false e h g = h
 
-pub writable-of : (w : List ℕ) → all clean w ≡ true → all (λ x. not (any kept x)) w ≡ true → all writable w ≡ true
+pub writable-of : (w : List ℕ) → all clean w ≡ true → all (λ x. not (inSpans excepted x)) w ≡ true → all writable w ≡ true
 writable-of [] h g = refl
 writable-of (x ∷ w) h g =
     let a = both-true (clean x) (all clean w) h in
-    let b = both-true (not (any kept x)) (all (λ y. not (any kept y)) w) g in
-    both (accepted-of (eqb (reasonOf x) 0) (any kept x) (not (eqb x 0x1B)) (a .0) (b .0)) (writable-of w (a .1) (b .1))
+    let b = both-true (not (inSpans excepted x)) (all (λ y. not (inSpans excepted y)) w) g in
+    both (accepted-of (eqb (reasonOf x) 0) (inSpans excepted x) (not (eqb x 0x1B)) (a .0) (b .0)) (writable-of w (a .1) (b .1))
 
 writable-joiner : writable 0x34F ≡ true
 writable-joiner = rw accepted-joiner

@@ -8,7 +8,7 @@ use types.Run.{hit}
 use Rattle.replace.proofs.Rows.{points, points-at, free-at, at-point}
 use Rattle.replace.specs.Replace.{replaceOf}
 use Rattle.check_char.specs.declared.Replacements.{Replacements}
-use Rattle.check_char.specs.Check.{listNumbers, listedOf}
+use Rattle.check_char.specs.Check.{listNumbers, threeAndCount}
 use Rattle.check_char.proofs.Answers.{reasons, reason-listed, says}
 use Rattle.check_char.proofs.check_basic_text_char.Statement.{statement}
 use Rattle.check_char.proofs.check_basic_text_char.Tie as tie
@@ -28,7 +28,7 @@ last c =
 returns-14 : tie.Need-returns-14
 returns-14 c =
     let d = c .before .before in
-    let e : c .listed .result ≡ listedOf (replaceOf (d .before .before .args .c)) = c .listed .ensures ∙ ap listedOf (c .before .replace .ensures) in
+    let e : c .listed .result ≡ threeAndCount (replaceOf (d .before .before .args .c)) = c .listed .ensures ∙ ap threeAndCount (c .before .replace .ensures) in
     ap (λ (l : Replacements). 16 ∷ d .before .before .args .c ∷ listNumbers l) e ∙ says _ 16 _ (d .before .reason .ensures) (last d)
 
 pub check-basic-text-char-spec : {M : Type 1} → statement M

@@ -1,4 +1,4 @@
--- `check_char::listed` meets its contract: each arm is a case of `listedOf`.
+-- `check_char::listed` meets its contract: each arm is a case of `threeAndCount`.
 use borrow.Author.Needs.{needs}
 use Rattle.check_char.proofs.listed.Statement.{statement}
 use Rattle.check_char.proofs.listed.Tie as tie
