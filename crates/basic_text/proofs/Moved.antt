@@ -19,8 +19,8 @@ use borrow.Author.Tests.{leb-true}
 use Rattle.unicode.proofs.Kit.{both-true}
 use Rattle.unicode.proofs.Lists.{sets-filled}
 use Rattle.isolate_unassigned.specs.declared.IsolateUnassigned.{IsolateUnassigned}
-use Rattle.isolate_unassigned.specs.Isolate.{finishOf}
-use Rattle.isolate_unassigned.proofs.Laws.{finish-size}
+use Rattle.isolate_unassigned.specs.Isolate.{lastOwed}
+use Rattle.isolate_unassigned.proofs.Laws.{lastOwed-size}
 use Rattle.text_output.specs.declared.TextOutput.{TextOutput}
 use Rattle.text_write.specs.declared.store.Place.{Place}
 use Rattle.text_write.specs.declared.store.Pushed.{Pushed}
@@ -125,10 +125,10 @@ held-most w s = leb-true (w .held) 64 (both-true (leb (w .held) 64) (heldIn (w .
 
 pub turn-few : (crlf : Bool) (p : List ℕ) (w : TextOutput) (r : IsolateUnassigned) (c : ℕ) → sound w ≡ true →
     length (pushed (turnOf crlf p w r c)) ≤ 67
-turn-few crlf p w r c s = omega (arith, turn-sound crlf p c w r s .size, finish-size r, held-most w s)
+turn-few crlf p w r c s = omega (arith, turn-sound crlf p c w r s .size, lastOwed-size r, held-most w s)
 
-pub finish-few : (w : TextOutput) (r : IsolateUnassigned) → sound w ≡ true → length (pushed (stepsOf w [] (finishOf r))) ≤ 67
-finish-few w r s = omega (arith, steps-stay (finishOf r) w [] s .size, finish-size r, held-most w s)
+pub finish-few : (w : TextOutput) (r : IsolateUnassigned) → sound w ≡ true → length (pushed (stepsOf w [] (lastOwed r))) ≤ 67
+finish-few w r s = omega (arith, steps-stay (lastOwed r) w [] s .size, lastOwed-size r, held-most w s)
 
 first-place : (w : Place) (escape : List ℕ) → writerAt (atPlace w 0) escape ≡ writerAt w escape
 unfolding writerAt atPlace

@@ -27,7 +27,7 @@ ghost use lib.ListN.{length, getD, take};
 ghost use lib.Seq.{sets};
 ghost use Rattle.unicode.specs.Utf8.{charsOf};
 ghost use Rattle.page.specs.Page.{accepted};
-ghost use Rattle.isolate_unassigned.specs.Isolate.{finishOf};
+ghost use Rattle.isolate_unassigned.specs.Isolate.{lastOwed};
 ghost use Rattle.text_output.specs.Writer.{sound, bytesOutcome};
 ghost use Rattle.text_output.specs.Step.{stepsOf};
 ghost use Rattle.text_output.specs.Write.{runIn, writeOf};
@@ -126,11 +126,11 @@ fn finish_bytes(
     requires sound { ⌜ sound (writerAt w (now escape)) ≡ true ⌝ }
     requires long { ⌜ length (now escape) ≡ 64 ⌝ }
     requires room { ⌜
-        w .at + length (pushed (stepsOf (writerAt w (now escape)) [] (finishOf isolator))) ≤ length (numbers (now queue))
+        w .at + length (pushed (stepsOf (writerAt w (now escape)) [] (lastOwed isolator))) ≤ length (numbers (now queue))
         ⌝ }
     ensures steps { λ r. ⌜
         progress r (now (escape .exit)) (numbers (now (queue .exit)))
-        ≡ stored (w .at) (numbers (now (queue .entry))) (stepsOf (writerAt w (now (escape .entry))) [] (finishOf isolator))
+        ≡ stored (w .at) (numbers (now (queue .entry))) (stepsOf (writerAt w (now (escape .entry))) [] (lastOwed isolator))
         ⌝ }
     ensures tail { λ r. ⌜ tail (now (queue .exit)) ≡ tail (now (queue .entry)) ⌝ }
 {

@@ -1,12 +1,13 @@
 -- What isolation does to any run. Each law is shown of what the steps give from any record on, by the two answers of a step: 34F and
 -- the character, or the character alone. Assumes nothing.
---     given-size, finish-size    a step gives at most two, and the end one
+--     givesOut-size, lastOwed-size    a step gives at most two, and the end one
 --     length-isolate      it needs no more places than `placesFor` says
 --     isolate-puts-in     it puts 34F in, and takes away, changes and moves nothing
 --     isolate-chars       of characters it gives characters
 --     isolate-guarded     by an accepted page, each unassigned character of the result has 34F before it
 --     isolate-of-guarded  a run of which that holds is left as it is
 --     isolate-twice       so isolating a second time changes nothing
+--     written-back        an answer read back from its numbers: no two answers list alike
 use Prim.Native.Nat.{ℕ, _+_, _*_, _≤_}
 use mathlib.Core.Path.{_≡_, refl, sym, ap}
 use mathlib.Core.Bool.{Bool, true, false, not, _&&_, _||_}
@@ -18,32 +19,34 @@ use Rattle.unicode.specs.Chars.{isChar, areChars}
 use Rattle.unicode.proofs.Kit.{never, split, both-true, both}
 use Rattle.page.specs.Page.{accepted}
 use Rattle.page.proofs.PageLaws.{facts-of-accepted}
+use Rattle.isolate_unassigned.specs.declared.Answer.{Answer}
+use Rattle.isolate_unassigned.specs.declared.Answer.the-variants.{Written, Refused}
 use Rattle.isolate_unassigned.specs.declared.IsolateUnassigned.{IsolateUnassigned}
 use Rattle.isolate_unassigned.specs.declared.Isolated.{Isolated}
 use Rattle.isolate_unassigned.specs.declared.Isolated.the-variants.{One, Two}
-use Rattle.isolate_unassigned.specs.Isolate.{unassigned, recordOf, fresh, puts, stepOf, given, after, finishOf, outs, isolateOf, placesFor}
+use Rattle.isolate_unassigned.specs.Isolate.{toIsolate, recordOf, fresh, puts, stepOf, givesOut, after, lastOwed, outs, isolateOf, placesFor, writtenNumbers}
 use Rattle.isolate_unassigned.specs.Meaning.{PutIn, none, kept, put, guarded}
 
 -- a fact of a step, by its two answers
 step-by : (P : Isolated → Type 0) (p : List ℕ) (r : IsolateUnassigned) (c : ℕ)
-    → (puts p r c ≡ true → P (Two 0x34F c (recordOf (unassigned p c) false)))
+    → (puts p r c ≡ true → P (Two 0x34F c (recordOf (toIsolate p c) false)))
     → (puts p r c ≡ false → P (One c (recordOf false (eqb c 0x34F)))) → P (stepOf p r c)
 unfolding stepOf
 step-by P p r c f g = split P (puts p r c) f g
 
 -- ---- the size
-pub given-size : (s : Isolated) → length (given s) ≤ 2
-given-size (One c next) = omega arith
-given-size (Two j c next) = omega arith
+pub givesOut-size : (s : Isolated) → length (givesOut s) ≤ 2
+givesOut-size (One c next) = omega arith
+givesOut-size (Two j c next) = omega arith
 
-pub finish-size : (r : IsolateUnassigned) → length (finishOf r) ≤ 1
-finish-size r = split (λ (l : List ℕ). length l ≤ 1) (r .«need_cgj») (λ e. omega arith) (λ e. omega arith)
+pub lastOwed-size : (r : IsolateUnassigned) → length (lastOwed r) ≤ 1
+lastOwed-size r = split (λ (l : List ℕ). length l ≤ 1) (r .«need_cgj») (λ e. omega arith) (λ e. omega arith)
 
 outs-size : (p cs : List ℕ) (r : IsolateUnassigned) → length (outs p r cs) ≤ 2 * length cs + 1
-outs-size p [] r = omega (arith, finish-size r)
+outs-size p [] r = omega (arith, lastOwed-size r)
 outs-size p (c ∷ cs) r =
     let s = stepOf p r c in
-    omega (arith, given-size s, outs-size p cs (after s), length-append (given s) (outs p (after s) cs))
+    omega (arith, givesOut-size s, outs-size p cs (after s), length-append (givesOut s) (outs p (after s) cs))
 
 pub length-isolate : (p cs : List ℕ) → length (isolateOf p cs) ≤ placesFor (length cs)
 unfolding isolateOf
@@ -54,8 +57,8 @@ length-isolate p (c ∷ cs) = outs-size p (c ∷ cs) fresh
 outs-put-in : (p cs : List ℕ) (r : IsolateUnassigned) → PutIn cs (outs p r cs)
 outs-put-in p [] r = split (λ (l : List ℕ). PutIn [] l) (r .«need_cgj») (λ e. put none) (λ e. none)
 outs-put-in p (c ∷ cs) r =
-    step-by (λ (s : Isolated). PutIn (c ∷ cs) (given s ++ outs p (after s) cs)) p r c
-    (λ e. put (kept (outs-put-in p cs (recordOf (unassigned p c) false))))
+    step-by (λ (s : Isolated). PutIn (c ∷ cs) (givesOut s ++ outs p (after s) cs)) p r c
+    (λ e. put (kept (outs-put-in p cs (recordOf (toIsolate p c) false))))
     (λ e. kept (outs-put-in p cs (recordOf false (eqb c 0x34F))))
 
 pub isolate-puts-in : (p cs : List ℕ) → PutIn cs (isolateOf p cs)
@@ -74,8 +77,8 @@ pub isolate-chars : (p cs : List ℕ) → areChars cs ≡ true → areChars (iso
 isolate-chars p cs = chars-of-put-in (isolate-puts-in p cs)
 
 -- ---- the result is isolated
-pub joiner-assigned : (p : List ℕ) → accepted p ≡ true → unassigned p 0x34F ≡ false
-unfolding unassigned
+pub joiner-assigned : (p : List ℕ) → accepted p ≡ true → toIsolate p 0x34F ≡ false
+unfolding toIsolate
 joiner-assigned p a = rw (facts-of-accepted p a .assigned-34f)
 
 or-true : (b : Bool) → b || true ≡ true
@@ -86,7 +89,7 @@ or-true false = refl
 guarded-by-more : (p cs : List ℕ) (has : Bool) → guarded p false cs ≡ true → guarded p has cs ≡ true
 guarded-by-more p [] has h = refl
 guarded-by-more p (c ∷ cs) true h =
-    both (or-true (not (unassigned p c))) (both-true (not (unassigned p c) || false) (guarded p (eqb c 0x34F) cs) h .1)
+    both (or-true (not (toIsolate p c))) (both-true (not (toIsolate p c) || false) (guarded p (eqb c 0x34F) cs) h .1)
 guarded-by-more p (c ∷ cs) false h = h
 
 -- a character that gets no 34F before it is assigned or has one
@@ -96,7 +99,7 @@ spared false true true h = refl
 spared false true false h = never (sym h)
 spared false false has h = refl
 
-module _ (p : List ℕ) (a : unassigned p 0x34F ≡ false) where
+module _ (p : List ℕ) (a : toIsolate p 0x34F ≡ false) where
   joiner-guarded : (has : Bool) (ds : List ℕ) → guarded p true ds ≡ true → guarded p has (0x34F ∷ ds) ≡ true
   joiner-guarded has ds h = rw a h
 
@@ -104,12 +107,12 @@ module _ (p : List ℕ) (a : unassigned p 0x34F ≡ false) where
   outs-guarded [] r =
       split (λ (l : List ℕ). guarded p (r .«have_cgj») l ≡ true) (r .«need_cgj») (λ e. joiner-guarded _ [] refl) (λ e. refl)
   outs-guarded (c ∷ cs) r =
-      let ds = outs p (recordOf (unassigned p c) false) cs in
+      let ds = outs p (recordOf (toIsolate p c) false) cs in
       let owed = r .«need_cgj» && not (eqb c 0x34F) in
-      step-by (λ (s : Isolated). guarded p (r .«have_cgj») (given s ++ outs p (after s) cs) ≡ true) p r c
+      step-by (λ (s : Isolated). guarded p (r .«have_cgj») (givesOut s ++ outs p (after s) cs) ≡ true) p r c
       (λ e. joiner-guarded (r .«have_cgj») (c ∷ ds)
-      (both (or-true (not (unassigned p c))) (guarded-by-more p ds (eqb c 0x34F) (outs-guarded cs (recordOf (unassigned p c) false)))))
-      (λ e. both (spared owed (unassigned p c) (r .«have_cgj») e) (outs-guarded cs (recordOf false (eqb c 0x34F))))
+      (both (or-true (not (toIsolate p c))) (guarded-by-more p ds (eqb c 0x34F) (outs-guarded cs (recordOf (toIsolate p c) false)))))
+      (λ e. both (spared owed (toIsolate p c) (r .«have_cgj») e) (outs-guarded cs (recordOf false (eqb c 0x34F))))
 
 pub isolate-guarded : (p cs : List ℕ) → accepted p ≡ true → guarded p false (isolateOf p cs) ≡ true
 unfolding isolateOf
@@ -126,8 +129,8 @@ outs-of-guarded : (p cs : List ℕ) (has : Bool) → guarded p has cs ≡ true �
 unfolding stepOf
 outs-of-guarded p [] has h = refl
 outs-of-guarded p (c ∷ cs) has h =
-    let q = both-true (not (unassigned p c) || has) (guarded p (eqb c 0x34F) cs) h in
-    rw (not-put (unassigned p c) has (q .0)) (ap (λ (l : List ℕ). c ∷ l) (outs-of-guarded p cs (eqb c 0x34F) (q .1)))
+    let q = both-true (not (toIsolate p c) || has) (guarded p (eqb c 0x34F) cs) h in
+    rw (not-put (toIsolate p c) has (q .0)) (ap (λ (l : List ℕ). c ∷ l) (outs-of-guarded p cs (eqb c 0x34F) (q .1)))
 
 pub isolate-of-guarded : (p cs : List ℕ) → guarded p false cs ≡ true → isolateOf p cs ≡ cs
 unfolding isolateOf
@@ -135,3 +138,13 @@ isolate-of-guarded p cs h = outs-of-guarded p cs false h
 
 pub isolate-twice : (p cs : List ℕ) → accepted p ≡ true → isolateOf p (isolateOf p cs) ≡ isolateOf p cs
 isolate-twice p cs a = isolate-of-guarded p (isolateOf p cs) (isolate-guarded p cs a)
+
+-- ---- the answer of these numbers
+abbrev answerOf : List ℕ → Answer
+answerOf [] = Refused 0
+answerOf (n ∷ []) = Refused n
+answerOf (n ∷ k ∷ ns) = Written k
+
+pub written-back : (a : Answer) → answerOf (writtenNumbers a) ≡ a
+written-back (Written k) = refl
+written-back (Refused n) = refl

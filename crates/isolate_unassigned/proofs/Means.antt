@@ -9,7 +9,7 @@ use lib.Dec.{eqb}
 use borrow.Author.Tests.{eqb-true}
 use Rattle.unicode.proofs.Kit.{never, by}
 use Rattle.page.specs.Page.{accepted}
-use Rattle.isolate_unassigned.specs.Isolate.{unassigned, recordOf, stepOf, outs, isolateOf}
+use Rattle.isolate_unassigned.specs.Isolate.{toIsolate, recordOf, stepOf, outs, isolateOf}
 use Rattle.isolate_unassigned.specs.Meaning.{there, gotBefore, getsAfter, isolatedAfter, isolated}
 use Rattle.isolate_unassigned.proofs.Laws.{joiner-assigned}
 
@@ -30,8 +30,8 @@ not-put-before : (o b : Bool) → o || b ≡ false → b ≡ false
 not-put-before true b h = never (sym h)
 not-put-before false b h = h
 
-module _ (p : List ℕ) (a : unassigned p 0x34F ≡ false) where
-  joiner-not : (c : ℕ) → eqb c 0x34F ≡ true → unassigned p c ≡ false
+module _ (p : List ℕ) (a : toIsolate p 0x34F ≡ false) where
+  joiner-not : (c : ℕ) → eqb c 0x34F ≡ true → toIsolate p c ≡ false
   joiner-not c e = rw (eqb-true c 0x34F e) a
 
   got-none : (before : List ℕ) → there before ≡ true → gotBefore p before ≡ false

@@ -3,7 +3,7 @@
 use mathlib.Core.Bool.{Bool, false, not, cond, _&&_, _||_}
 use mathlib.Core.List.{List, [], _∷_, _++_}
 use Prim.Native.Nat.{ℕ, zero, suc, _+_, _*_}
-use lib.Dec.{leb, eqb}
+use lib.Dec.{ltb, eqb}
 use lib.ListN.{length}
 use Rattle.unicode.specs.Chars.{areChars, filled}
 use Rattle.page.specs.Page.{assigned, accepted}
@@ -15,8 +15,8 @@ use Rattle.isolate_unassigned.specs.declared.Isolated.{Isolated}
 use Rattle.isolate_unassigned.specs.declared.Isolated.the-variants.{One, Two}
 
 -- "an unassigned character outside private use"
-unfoldable pub unassigned : List ℕ → ℕ → Bool
-unassigned p c = not (assigned p c || isPrivateUse c)
+unfoldable pub toIsolate : List ℕ → ℕ → Bool
+toIsolate p c = not (assigned p c || isPrivateUse c)
 
 -- ---- the record: `IsolateUnassigned`
 -- by its fields `need_cgj` and `have_cgj`
@@ -27,18 +27,18 @@ recordOf need have = record { «need_cgj» = need; «have_cgj» = have }
 abbrev pub fresh : IsolateUnassigned
 fresh = recordOf false false
 
--- whether `next` puts 34F before a character c: one is owed and c is none, or c is unassigned and none stands before it
+-- whether `next` puts 34F before a character c: one is owed and c is none, or c is to be isolated and none stands before it
 abbrev pub puts : List ℕ → IsolateUnassigned → ℕ → Bool
-puts p r c = (r .«need_cgj» && not (eqb c 0x34F)) || (unassigned p c && not (r .«have_cgj»))
+puts p r c = (r .«need_cgj» && not (eqb c 0x34F)) || (toIsolate p c && not (r .«have_cgj»))
 
 -- `next` on a character
 unfoldable pub stepOf : List ℕ → IsolateUnassigned → ℕ → Isolated
-stepOf p r c = cond (puts p r c) (Two 0x34F c (recordOf (unassigned p c) false)) (One c (recordOf false (eqb c 0x34F)))
+stepOf p r c = cond (puts p r c) (Two 0x34F c (recordOf (toIsolate p c) false)) (One c (recordOf false (eqb c 0x34F)))
 
 -- what a step gives out
-abbrev pub given : Isolated → List ℕ
-given (One c next) = c ∷ []
-given (Two j c next) = j ∷ c ∷ []
+abbrev pub givesOut : Isolated → List ℕ
+givesOut (One c next) = c ∷ []
+givesOut (Two j c next) = j ∷ c ∷ []
 
 -- the record after it
 abbrev pub after : Isolated → IsolateUnassigned
@@ -46,14 +46,14 @@ after (One c next) = next
 after (Two j c next) = next
 
 -- `next` with no character: the 34F that is owed
-abbrev pub finishOf : IsolateUnassigned → List ℕ
-finishOf r = cond (r .«need_cgj») (0x34F ∷ []) []
+abbrev pub lastOwed : IsolateUnassigned → List ℕ
+lastOwed r = cond (r .«need_cgj») (0x34F ∷ []) []
 
 -- ---- a run
 -- what the iterator gives for the characters cs, from a record on
 abbrev pub outs : List ℕ → IsolateUnassigned → List ℕ → List ℕ
-outs p r [] = finishOf r
-outs p r (c ∷ cs) = given (stepOf p r c) ++ outs p (after (stepOf p r c)) cs
+outs p r [] = lastOwed r
+outs p r (c ∷ cs) = givesOut (stepOf p r c) ++ outs p (after (stepOf p r c)) cs
 
 -- the run cs, isolated by the page p
 unfoldable pub isolateOf : List ℕ → List ℕ → List ℕ
@@ -64,20 +64,21 @@ abbrev pub placesFor : ℕ → ℕ
 placesFor zero = 0
 placesFor (suc n) = 2 * suc n + 1
 
--- whether so many places are enough for the run
-abbrev pub enough : List ℕ → List ℕ → Bool
-enough cs out = leb (placesFor (length cs)) (length out)
-
 -- an answer by document 01's numbers: 0 and how many were written, or the refusal's number
 abbrev pub writtenNumbers : Answer → List ℕ
 writtenNumbers (Written n) = 0 ∷ n ∷ []
 writtenNumbers (Refused n) = n ∷ []
 
--- the answer, "order 2, 1, 8": 2 for a wrong page, 1 for a value that is no character, 8 for too few places, else how many were written
-abbrev pub isolateAnswer : List ℕ → List ℕ → List ℕ → Answer
+-- "order 2, 1, 8": the number of the refusal, and 0 for none. 2 for a wrong page, 1 for a value that is no character, 8 for too few places
+abbrev pub isolateRefusal : List ℕ → List ℕ → List ℕ → ℕ
+isolateRefusal p cs out =
+    cond (not (accepted p)) 2 (cond (not (areChars cs)) 1 (cond (ltb (length out) (placesFor (length cs))) 8 0))
+
+-- the answer: 0 and how many were written, or the refusal's number
+abbrev pub isolateAnswer : List ℕ → List ℕ → List ℕ → List ℕ
 isolateAnswer p cs out =
-    cond (accepted p) (cond (areChars cs) (cond (enough cs out) (Written (length (isolateOf p cs))) (Refused 8)) (Refused 1)) (Refused 2)
+    cond (eqb (isolateRefusal p cs out) 0) (0 ∷ length (isolateOf p cs) ∷ []) (isolateRefusal p cs out ∷ [])
 
 -- the places as isolation leaves them: unchanged by a refusal
 abbrev pub isolatePlaces : List ℕ → List ℕ → List ℕ → List ℕ
-isolatePlaces p cs out = cond (accepted p && (areChars cs && enough cs out)) (filled (isolateOf p cs) out) out
+isolatePlaces p cs out = cond (eqb (isolateRefusal p cs out) 0) (filled (isolateOf p cs) out) out

@@ -5,7 +5,7 @@ use mathlib.Core.Bool.{Bool, true, false, not, cond, _&&_, _||_}
 use mathlib.Core.List.{List, [], _∷_, _++_}
 use Prim.Native.Nat.{ℕ}
 use lib.Dec.{eqb}
-use Rattle.isolate_unassigned.specs.Isolate.{unassigned}
+use Rattle.isolate_unassigned.specs.Isolate.{toIsolate}
 
 -- "one is there": the nearest character of the run is 34F
 abbrev pub there : List ℕ → Bool
@@ -15,18 +15,19 @@ there (c ∷ before) = eqb c 0x34F
 -- "an unassigned character outside private use gets 34F before it unless one is there": whether the nearest character got one
 abbrev pub gotBefore : List ℕ → List ℕ → Bool
 gotBefore p [] = false
-gotBefore p (c ∷ before) = unassigned p c && not (there before)
+gotBefore p (c ∷ before) = toIsolate p c && not (there before)
 
 -- "and 34F after it only if one was put before": whether one is put after the nearest character, where c follows; none is where c
 -- is 34F, which serves
 abbrev pub getsAfter : List ℕ → List ℕ → ℕ → Bool
 getsAfter p before c = gotBefore p before && not (eqb c 0x34F)
 
--- "Between two neighbours of this kind one put 34F serves as after and as before"
+-- 34F if one is put
 abbrev pub joiner : Bool → List ℕ
 joiner put = cond put (0x34F ∷ []) []
 
--- the characters cs that follow `before`, each with what is put between it and its neighbour; last what is put behind them all
+-- the characters cs that follow `before`, each with what is put between it and its neighbour; last what is put behind them all.
+-- "Between two neighbours of this kind one put 34F serves as after and as before": what is put between two is put once
 abbrev pub isolatedAfter : List ℕ → List ℕ → List ℕ → List ℕ
 isolatedAfter p before [] = joiner (gotBefore p before)
 isolatedAfter p before (c ∷ cs) =
@@ -42,7 +43,7 @@ pub data PutIn : List ℕ → List ℕ → Type 0 where
   kept : {c : ℕ} {cs ds : List ℕ} → PutIn cs ds → PutIn (c ∷ cs) (c ∷ ds)
   put : {cs ds : List ℕ} → PutIn cs ds → PutIn cs (0x34F ∷ ds)
 
--- each unassigned character outside private use of cs has 34F right before it, where one stands before cs if `has`
+-- each unassigned character outside private use of cs has 34F right before it. `has`: whether 34F stands right before cs
 abbrev pub guarded : List ℕ → Bool → List ℕ → Bool
 guarded p has [] = true
-guarded p has (c ∷ cs) = (not (unassigned p c) || has) && guarded p (eqb c 0x34F) cs
+guarded p has (c ∷ cs) = (not (toIsolate p c) || has) && guarded p (eqb c 0x34F) cs

@@ -12,7 +12,7 @@ ghost use Prim.Native.Nat.{_≤_};
 ghost use lib.ListN.{length};
 ghost use Rattle.unicode.specs.Chars.{areChars, filled};
 ghost use Rattle.page.specs.Page.{accepted};
-ghost use Rattle.isolate_unassigned.specs.Isolate.{unassigned, fresh, stepOf, placesFor, isolateOf, isolateAnswer, isolatePlaces};
+ghost use Rattle.isolate_unassigned.specs.Isolate.{toIsolate, fresh, stepOf, placesFor, isolateOf, writtenNumbers, isolateAnswer, isolatePlaces};
 
 // Puts 34F around unassigned characters.
 pub struct IsolateUnassigned {
@@ -31,7 +31,7 @@ pub enum Isolated {
 // Whether c is unassigned and outside private use. Inner: asks for an accepted page.
 fn is_unassigned(page: &[u32], c: u32) -> bool
     requires { ⌜ accepted (now page) ≡ true ⌝ }
-    ensures { λ r. ⌜ r ≡ unassigned (now (page .entry)) c ⌝ }
+    ensures { λ r. ⌜ r ≡ toIsolate (now (page .entry)) c ⌝ }
 {
     !(is_assigned(page, c) | is_private_use_area(c))
 }
@@ -135,7 +135,7 @@ pub fn isolate_run(page: &[u32], chars: &[u32], out: &mut [u32]) -> usize
 
 // Isolates a run of characters into the first places of out. Total: refuses 2, then 1, then 8, and then leaves every place.
 pub fn isolate(page: &[u32], chars: &[u32], out: &mut [u32]) -> Answer
-    ensures answer { λ r. ⌜ r ≡ isolateAnswer (now (page .entry)) (now (chars .entry)) (now (out .entry)) ⌝ }
+    ensures answer { λ r. ⌜ writtenNumbers r ≡ isolateAnswer (now (page .entry)) (now (chars .entry)) (now (out .entry)) ⌝ }
     ensures places { λ r. ⌜ now (out .exit) ≡ isolatePlaces (now (page .entry)) (now (chars .entry)) (now (out .entry)) ⌝ }
 {
     if is_accepted(page) {

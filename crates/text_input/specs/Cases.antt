@@ -5,9 +5,7 @@ use Prim.Native.Nat.{ℕ}
 use mathlib.Core.Bool.{true, false}
 use mathlib.Core.List.{List, [], _∷_}
 use lib.ListN.{take, replicate}
-use Rattle.isolate_unassigned.specs.declared.Answer.{Answer}
-use Rattle.isolate_unassigned.specs.declared.Answer.the-variants.{Written, Refused}
-use Rattle.isolate_unassigned.specs.Isolate.{isolateAnswer, isolatePlaces}
+use Rattle.isolate_unassigned.specs.Isolate.{writtenNumbers, isolateAnswer, isolatePlaces}
 use Rattle.text_input.specs.declared.Options.{Options}
 use Rattle.text_input.specs.declared.TextInput.{TextInput}
 use Rattle.text_input.specs.Scan.{Outcome, fresh, scanOf, finishOf}
@@ -35,12 +33,14 @@ abbrev pub lent : ℕ → List ℕ
 lent room = replicate room 0xEEEEEEEE
 
 -- ---- what a row's calls give
-abbrev pub told : Answer → List ℕ → List ℕ
-told (Written n) places = 0 ∷ take n places
-told (Refused n) places = n ∷ []
+-- an answer's numbers with the characters written in place of their count
+abbrev pub told : List ℕ → List ℕ → List ℕ
+told [] places = []
+told (n ∷ []) places = n ∷ []
+told (n ∷ k ∷ ns) places = n ∷ take k places
 
 abbrev pub callTold : Outcome → List ℕ
-callTold s = told (s .given .answer) (s .places)
+callTold s = told (writtenNumbers (s .given .answer)) (s .places)
 
 -- each call on the record that the one before returned, refused or not
 abbrev pub streamTold : TextInput → List (List ℕ) → List ℕ → List (List ℕ)

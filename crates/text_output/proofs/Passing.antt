@@ -34,7 +34,7 @@ use Rattle.text_utils.proofs.Classes.{start-joiner}
 use Rattle.check_char.specs.Check.{all}
 use Rattle.isolate_unassigned.specs.declared.IsolateUnassigned.{IsolateUnassigned}
 use Rattle.isolate_unassigned.specs.declared.Isolated.{Isolated}
-use Rattle.isolate_unassigned.specs.Isolate.{unassigned, recordOf, fresh as unmarked, puts, stepOf, given, after, outs, isolateOf}
+use Rattle.isolate_unassigned.specs.Isolate.{toIsolate, recordOf, fresh as unmarked, puts, stepOf, givesOut, after, outs, isolateOf}
 use Rattle.isolate_unassigned.specs.Meaning.{PutIn, none, kept, put}
 use Rattle.isolate_unassigned.proofs.Laws.{length-isolate, isolate-puts-in}
 use Rattle.text_output.specs.declared.Ground.{Ground}
@@ -70,8 +70,8 @@ module _ (p : List ℕ) (a : accepted p ≡ true) where
   pub starts-isolated : (cs : List ℕ) → startsWell p cs ≡ true → startsWell p (isolateOf p cs) ≡ true
   starts-isolated cs = starts-put-in (isolate-puts-in p cs)
 
-  newline-assigned : (c : ℕ) → eqb c 0x0A ≡ true → unassigned p c ≡ false
-  unfolding unassigned
+  newline-assigned : (c : ℕ) → eqb c 0x0A ≡ true → toIsolate p c ≡ false
+  unfolding toIsolate
   newline-assigned c e = rw (eqb-true c 0x0A e, facts-of-accepted p a .assigned-0a)
 
   -- from a record that owes no 34F if it is after 0A
@@ -80,8 +80,8 @@ module _ (p : List ℕ) (a : accepted p ≡ true) where
   unfolding stepOf
   outs-end [] r b f h = rw (f h) h
   outs-end (c ∷ cs) r b f h =
-      split (λ (s : Isolated). endsWell b (given s ++ outs p (after s) cs) ≡ true) (puts p r c)
-      (λ e. outs-end cs (recordOf (unassigned p c) false) (eqb c 0x0A) (newline-assigned c) h)
+      split (λ (s : Isolated). endsWell b (givesOut s ++ outs p (after s) cs) ≡ true) (puts p r c)
+      (λ e. outs-end cs (recordOf (toIsolate p c) false) (eqb c 0x0A) (newline-assigned c) h)
       (λ e. outs-end cs (recordOf false (eqb c 0x34F)) (eqb c 0x0A) (λ n. refl) h)
 
   pub ends-isolated : (cs : List ℕ) → endsWell true cs ≡ true → endsWell true (isolateOf p cs) ≡ true

@@ -17,7 +17,7 @@ use Rattle.unicode.proofs.Kit.{by}
 use Rattle.check_char.specs.Check.{reasonOf, checkNumbers}
 use Rattle.check_char.proofs.Clean.{refused-substitute}
 use Rattle.isolate_unassigned.specs.declared.IsolateUnassigned.{IsolateUnassigned}
-use Rattle.isolate_unassigned.specs.Isolate.{fresh, puts, given, after, finishOf, outs, isolateOf}
+use Rattle.isolate_unassigned.specs.Isolate.{fresh, puts, givesOut, after, lastOwed, outs, isolateOf}
 use Rattle.isolate_unassigned.specs.Isolate.{stepOf as isolatedBy}
 use Rattle.isolate_unassigned.specs.Meaning.{joiner}
 use Rattle.text_output.specs.declared.State.{State}
@@ -32,7 +32,7 @@ use Rattle.text_write.proofs.Asked.{step-asked}
 
 -- what is left of a write
 unfoldable pub restOf : Bool → List ℕ → TextOutput → IsolateUnassigned → List ℕ → Stepped
-restOf crlf p w r [] = stepsOf w [] (finishOf r)
+restOf crlf p w r [] = stepsOf w [] (lastOwed r)
 restOf crlf p w r (c ∷ cs) =
     andThen (turnOf crlf p w r c) (λ next. restOf crlf p next (isolatorAfter crlf p r c) cs)
 
@@ -105,7 +105,7 @@ pub accepted-no-sub : (c : ℕ) → reasonOf c ≡ 0 → eqb c 0x1A ≡ false
 accepted-no-sub c r = ne-eqb c 0x1A (λ e. omega (arith, refused-substitute, rw e at r))
 
 -- what the isolator gives: 34F or none, and the character
-pub given-joined : (p : List ℕ) (r : IsolateUnassigned) (c : ℕ) → given (isolatedBy p r c) ≡ joiner (puts p r c) ++ c ∷ []
+pub given-joined : (p : List ℕ) (r : IsolateUnassigned) (c : ℕ) → givesOut (isolatedBy p r c) ≡ joiner (puts p r c) ++ c ∷ []
 unfolding isolatedBy
 given-joined p r c = by (puts p r c) (λ e. rw e) (λ e. rw e)
 
@@ -120,7 +120,7 @@ stops-then : (s : Stepped) (more : TextOutput → Stepped) → (xs : List ℕ) (
 stops-then s more xs w n e = rw e refl
 
 turn-accepted : (p : List ℕ) (w : TextOutput) (r : IsolateUnassigned) (c : ℕ) (e f : List ℕ) → reasonOf c ≡ 0 →
-    stepsOf w e (given (isolatedBy p r c)) ≡ stepsOf w f (given (isolatedBy p r c))
+    stepsOf w e (givesOut (isolatedBy p r c)) ≡ stepsOf w f (givesOut (isolatedBy p r c))
 turn-accepted p w r c e f h =
     let n = accepted-no-sub c h in
     rw (given-joined p r c, steps-joined (puts p r c) w e c, steps-joined (puts p r c) w f c)
@@ -128,7 +128,7 @@ turn-accepted p w r c e f h =
 
 -- nothing comes behind a refused character
 turn-refused : (p : List ℕ) (w : TextOutput) (r : IsolateUnassigned) (error : List ℕ) (more : TextOutput → Stepped) →
-    andThen (stepsOf w error (given (isolatedBy p r 0x1A))) more ≡ stepsOf w error (given (isolatedBy p r 0x1A))
+    andThen (stepsOf w error (givesOut (isolatedBy p r 0x1A))) more ≡ stepsOf w error (givesOut (isolatedBy p r 0x1A))
 turn-refused p w r error more =
     let put = puts p r 0x1A in
     let first = stepsOf w [] (joiner put) in
@@ -139,15 +139,15 @@ turn-refused p w r error more =
 -- one character of a run
 one-turn : (p : List ℕ) (w : TextOutput) (r : IsolateUnassigned) (c : ℕ) (cs : List ℕ) →
     left p w r (c ∷ cs)
-    ≡ andThen (stepsOf w (checkNumbers c) (given (isolatedBy p r (checked c)))) (λ next. left p next (after (isolatedBy p r (checked c))) cs)
+    ≡ andThen (stepsOf w (checkNumbers c) (givesOut (isolatedBy p r (checked c)))) (λ next. left p next (after (isolatedBy p r (checked c))) cs)
 one-turn p w r c cs =
     by (eqb (reasonOf c) 0)
     (λ e.
     let s = isolatedBy p r c in
-    rw (e, steps-append (given s) (outs p (after s) (map checked cs)) w (firstError cs), turn-accepted p w r c (firstError cs) (checkNumbers c) (eqb-true _ _ e)))
+    rw (e, steps-append (givesOut s) (outs p (after s) (map checked cs)) w (firstError cs), turn-accepted p w r c (firstError cs) (checkNumbers c) (eqb-true _ _ e)))
     (λ e.
     let s = isolatedBy p r 0x1A in
-    rw (e, steps-append (given s) (outs p (after s) (map checked cs)) w (checkNumbers c))
+    rw (e, steps-append (givesOut s) (outs p (after s) (map checked cs)) w (checkNumbers c))
     (turn-refused p w r (checkNumbers c) _ ∙ sym (turn-refused p w r (checkNumbers c) _)))
 
 -- ---- a write
@@ -157,7 +157,7 @@ unfolding restOf turnOf isolatorAfter
 left-rest p [] w r = refl
 left-rest p (c ∷ cs) w r =
     one-turn p w r c cs
-    ∙ andThen-alike (stepsOf w (checkNumbers c) (given (isolatedBy p r (checked c)))) _ _ (λ next. left-rest p cs next (after (isolatedBy p r (checked c))))
+    ∙ andThen-alike (stepsOf w (checkNumbers c) (givesOut (isolatedBy p r (checked c)))) _ _ (λ next. left-rest p cs next (after (isolatedBy p r (checked c))))
 
 -- part by part, the first of them from the isolator's record on
 abbrev partsLeft : List ℕ → TextOutput → IsolateUnassigned → List (List ℕ) → Stepped
@@ -185,18 +185,18 @@ more-first p w ps s = rw (s .is) refl
 
 parts-rest : (p cs : List ℕ) (w : TextOutput) (r : IsolateUnassigned) → partsLeft p w r (parts cs) ≡ restOf true p w r cs
 unfolding restOf turnOf isolatorAfter parts moreParts
-parts-rest p [] w r = andThen-none (stepsOf w [] (finishOf r))
+parts-rest p [] w r = andThen-none (stepsOf w [] (lastOwed r))
 parts-rest p (c ∷ cs) w r =
     let s = parts-split cs in
     by (eqb c 0x0A)
     (λ e.
-    let owed = stepsOf w [] (finishOf r) in
+    let owed = stepsOf w [] (lastOwed r) in
     rw e
     (andThen-alike owed _ _ (λ next. more-first p next (parts cs) s)
     ∙ sym (andThen-assoc owed lineEnd (λ next. partsLeft p next fresh (parts cs)))
     ∙ andThen-alike (andThen owed lineEnd) _ _ (λ next. parts-rest p cs next fresh)))
     (λ e.
-    let turn = stepsOf w (checkNumbers c) (given (isolatedBy p r (checked c))) in
+    let turn = stepsOf w (checkNumbers c) (givesOut (isolatedBy p r (checked c))) in
     let r' = after (isolatedBy p r (checked c)) in
     rw (e, s .is, one-turn p w r c (s .first))
     (andThen-assoc turn (λ next. left p next r' (s .first)) (λ next. moreParts p next (s .rest))

@@ -15,7 +15,7 @@ use Rattle.unicode.specs.Utf8.{charsFrom, charsOf}
 use Rattle.unicode.specs.Utf8.{stepOf as utf8Step}
 use Rattle.unicode.proofs.Texts.{step-on, stop-from}
 use Rattle.isolate_unassigned.specs.declared.IsolateUnassigned.{IsolateUnassigned}
-use Rattle.isolate_unassigned.specs.Isolate.{fresh, finishOf}
+use Rattle.isolate_unassigned.specs.Isolate.{fresh, lastOwed}
 use Rattle.text_output.specs.declared.TextOutput.{TextOutput}
 use Rattle.text_write.specs.declared.store.Place.{Place}
 use Rattle.text_write.specs.declared.store.Stop.{Stop}
@@ -73,7 +73,7 @@ module _ (p : List ℕ) (crlf : Bool) (start : Place) (escape₀ out₀ cs₀ : 
 
   module _ (w : Place) (r : IsolateUnassigned) (escape out : List ℕ) (g : Going w r [] escape out) where
     abbrev last : Stepped
-    last = stepsOf (writerAt w escape) [] (finishOf r)
+    last = stepsOf (writerAt w escape) [] (lastOwed r)
 
     finishing : stored (w .at) out last ≡ stored (start .at) out₀ whole
     unfolding restOf

@@ -16,10 +16,10 @@ use borrow.Author.Tests.{eqb-true, ltb-true, leb-true, le-leb}
 use Rattle.unicode.proofs.Kit.{by, both-true, both}
 use Rattle.check_char.specs.Check.{checkNumbers}
 use Rattle.isolate_unassigned.specs.declared.IsolateUnassigned.{IsolateUnassigned}
-use Rattle.isolate_unassigned.specs.Isolate.{fresh, given, after, finishOf}
+use Rattle.isolate_unassigned.specs.Isolate.{fresh, givesOut, after, lastOwed}
 use Rattle.isolate_unassigned.specs.Isolate.{stepOf as isolatedBy}
 use Rattle.text_utils.specs.Classes.{basicTextEnd}
-use Rattle.isolate_unassigned.proofs.Laws.{given-size, finish-size}
+use Rattle.isolate_unassigned.proofs.Laws.{givesOut-size, lastOwed-size}
 use Rattle.text_output.specs.declared.State.{State}
 use Rattle.text_output.specs.declared.State.the-variants.{Ground, Esc, Csi}
 use Rattle.text_output.specs.declared.TextOutput.{TextOutput}
@@ -130,36 +130,36 @@ line-end-stays w = record { is-sound = refl; long = refl; size = omega arith }
 module _ (crlf : Bool) (p : List ℕ) (c : ℕ) where
   -- where 0A ends a part, and where not
   turn-stays-end : (w : TextOutput) (r : IsolateUnassigned) → sound w ≡ true → crlf && eqb c 0x0A ≡ true →
-      Stays (length (finishOf r) + 2) w (turnOf crlf p w r c)
+      Stays (length (lastOwed r) + 2) w (turnOf crlf p w r c)
   unfolding turnOf
   turn-stays-end w r s e =
-      rw e (stays-then (length (finishOf r)) 2 w _ lineEnd (steps-stay (finishOf r) w [] s) (λ v t. line-end-stays v))
+      rw e (stays-then (length (lastOwed r)) 2 w _ lineEnd (steps-stay (lastOwed r) w [] s) (λ v t. line-end-stays v))
 
   turn-stays-on : (w : TextOutput) (r : IsolateUnassigned) → sound w ≡ true → crlf && eqb c 0x0A ≡ false →
       Stays 2 w (turnOf crlf p w r c)
   unfolding turnOf
   turn-stays-on w r s e =
-      let g = given (isolatedBy p r (checked c)) in
-      rw e (stays-more (length g) 2 w _ (given-size (isolatedBy p r (checked c))) (steps-stay g w (checkNumbers c) s))
+      let g = givesOut (isolatedBy p r (checked c)) in
+      rw e (stays-more (length g) 2 w _ (givesOut-size (isolatedBy p r (checked c))) (steps-stay g w (checkNumbers c) s))
 
-  pub turn-sound : (w : TextOutput) (r : IsolateUnassigned) → sound w ≡ true → Stays (length (finishOf r) + 2) w (turnOf crlf p w r c)
+  pub turn-sound : (w : TextOutput) (r : IsolateUnassigned) → sound w ≡ true → Stays (length (lastOwed r) + 2) w (turnOf crlf p w r c)
   turn-sound w r s =
       by (crlf && eqb c 0x0A) (turn-stays-end w r s) (λ e. stays-more 2 _ w _ (omega arith) (turn-stays-on w r s e))
 
 pub rest-stays : (crlf : Bool) (p cs : List ℕ) (w : TextOutput) (r : IsolateUnassigned) → sound w ≡ true →
-    Stays (3 * length cs + length (finishOf r)) w (restOf crlf p w r cs)
+    Stays (3 * length cs + length (lastOwed r)) w (restOf crlf p w r cs)
 unfolding restOf isolatorAfter
-rest-stays crlf p [] w r s = stays-more (length (finishOf r)) _ w _ (omega arith) (steps-stay (finishOf r) w [] s)
+rest-stays crlf p [] w r s = stays-more (length (lastOwed r)) _ w _ (omega arith) (steps-stay (lastOwed r) w [] s)
 rest-stays crlf p (c ∷ cs) w r s =
     by (crlf && eqb c 0x0A)
     (λ e.
-    let rest = 3 * length cs + length (finishOf fresh) in
+    let rest = 3 * length cs + length (lastOwed fresh) in
     rw e
-    (stays-more (length (finishOf r) + 2 + rest) _ w _ (omega arith)
-    (stays-then (length (finishOf r) + 2) rest w _ _ (turn-stays-end crlf p c w r s e) (λ v t. rest-stays crlf p cs v fresh t))))
+    (stays-more (length (lastOwed r) + 2 + rest) _ w _ (omega arith)
+    (stays-then (length (lastOwed r) + 2) rest w _ _ (turn-stays-end crlf p c w r s e) (λ v t. rest-stays crlf p cs v fresh t))))
     (λ e.
     let next = after (isolatedBy p r (checked c)) in
-    let rest = 3 * length cs + length (finishOf next) in
+    let rest = 3 * length cs + length (lastOwed next) in
     rw e
-    (stays-more (2 + rest) _ w _ (omega (arith, finish-size next))
+    (stays-more (2 + rest) _ w _ (omega (arith, lastOwed-size next))
     (stays-then 2 rest w _ _ (turn-stays-on crlf p c w r s e) (λ v t. rest-stays crlf p cs v next t))))

@@ -10,7 +10,7 @@ use Rattle.text_utils.specs.Classes.{basicTextStart, basicTextEnd}
 use Rattle.check_char.specs.declared.BasicTextError.the-variants.{UnrecognizedEscape}
 use Rattle.check_char.specs.Check.{errorNumbers, checkNumbers}
 use Rattle.isolate_unassigned.specs.declared.IsolateUnassigned.{IsolateUnassigned}
-use Rattle.isolate_unassigned.specs.Isolate.{fresh, given, after, finishOf}
+use Rattle.isolate_unassigned.specs.Isolate.{fresh, givesOut, after, lastOwed}
 use Rattle.isolate_unassigned.specs.Isolate.{stepOf as isolatedBy}
 use Rattle.text_output.specs.declared.Ground.the-variants.{Newline, ZwjOrPrepend, Other}
 use Rattle.text_output.specs.declared.State.{State}
@@ -125,8 +125,8 @@ isCrlf Color = false
 -- isolated and stepped
 unfoldable pub turnOf : Bool → List ℕ → TextOutput → IsolateUnassigned → ℕ → Stepped
 turnOf crlf p w r c =
-    cond (crlf && eqb c 0x0A) (andThen (stepsOf w [] (finishOf r)) lineEnd)
-    (stepsOf w (checkNumbers c) (given (isolatedBy p r (checked c))))
+    cond (crlf && eqb c 0x0A) (andThen (stepsOf w [] (lastOwed r)) lineEnd)
+    (stepsOf w (checkNumbers c) (givesOut (isolatedBy p r (checked c))))
 
 -- the isolator after it
 unfoldable pub isolatorAfter : Bool → List ℕ → IsolateUnassigned → ℕ → IsolateUnassigned

@@ -24,7 +24,7 @@ ghost use lib.ListN.{length};
 ghost use Rattle.unicode.specs.Utf8.{charsOf};
 ghost use Rattle.page.specs.Page.{accepted};
 ghost use Rattle.check_char.specs.Check.{errorNumbers, reasonNumbers, checkNumbers};
-ghost use Rattle.isolate_unassigned.specs.Isolate.{puts, after, finishOf};
+ghost use Rattle.isolate_unassigned.specs.Isolate.{puts, after, lastOwed};
 ghost use Rattle.isolate_unassigned.specs.Isolate.{stepOf as isolatedBy};
 ghost use Rattle.isolate_unassigned.specs.Meaning.{joiner};
 ghost use Rattle.text_output.specs.Writer.{sound};
@@ -225,10 +225,10 @@ pub fn turn(
 pub fn finish(w: Place, isolator: IsolateUnassigned, escape: &mut [u32], out: &mut [u32]) -> Pushed
     requires sound { ⌜ sound (writerAt w (now escape)) ≡ true ⌝ }
     requires long { ⌜ length (now escape) ≡ 64 ⌝ }
-    requires room { ⌜ w .at + length (pushed (stepsOf (writerAt w (now escape)) [] (finishOf isolator))) ≤ length (now out) ⌝ }
+    requires room { ⌜ w .at + length (pushed (stepsOf (writerAt w (now escape)) [] (lastOwed isolator))) ≤ length (now out) ⌝ }
     ensures { λ r. ⌜
         progress r (now (escape .exit)) (now (out .exit))
-        ≡ stored (w .at) (now (out .entry)) (stepsOf (writerAt w (now (escape .entry))) [] (finishOf isolator))
+        ≡ stored (w .at) (now (out .entry)) (stepsOf (writerAt w (now (escape .entry))) [] (lastOwed isolator))
         ⌝ }
 {
     push_joiner(w, isolator.finish(), escape, out)

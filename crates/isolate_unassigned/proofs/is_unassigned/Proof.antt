@@ -1,11 +1,11 @@
 -- `isolate_unassigned::is_unassigned` meets its contract, from those of the two tests.
 use borrow.Author.Needs.{needs}
-use Rattle.isolate_unassigned.specs.Isolate.{unassigned}
+use Rattle.isolate_unassigned.specs.Isolate.{toIsolate}
 use Rattle.isolate_unassigned.proofs.is_unassigned.Statement.{statement}
 use Rattle.isolate_unassigned.proofs.is_unassigned.Tie as tie
 
 returns : tie.Need-returns
-unfolding unassigned
+unfolding toIsolate
 returns c = simp (c .before .is-assigned .ensures, c .is-private-use-area .ensures)
 
 pub is-unassigned-spec : {M : Type 1} → statement M

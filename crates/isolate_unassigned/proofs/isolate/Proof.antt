@@ -1,11 +1,11 @@
--- `isolate_unassigned::isolate` meets its contract: its tests are those of `isolateAnswer` and `isolatePlaces`, in their order, and
+-- `isolate_unassigned::isolate` meets its contract: its tests are those of `isolateRefusal`, in their order, and
 -- the places that it asks for are enough.
 use Prim.Native.Nat.{_≤_}
 use mathlib.Core.Path.{_≡_, sym, _∙_}
 use mathlib.Core.Bool.{true}
 use native.Mathlib.Omega.{arith}
 use borrow.Author.Needs.{needs}
-use borrow.Author.Tests.{le-leb, lt-leb}
+use borrow.Author.Tests.{lt-ltb, le-ltb}
 use lib.ListN.{length}
 use Rattle.unicode.specs.Chars.{areChars}
 use Rattle.page.specs.Page.{accepted}
@@ -38,7 +38,7 @@ returns c =
     let d = c .before .before .before .before in
     let p = right-page (d .before .before .before .before) in
     let q = characters (d .before .before) in
-    let n = le-leb _ _ (room d) in
+    let n = le-ltb _ _ (room d) in
     (simp (p, q, n, r .0), simp (p, q, n, r .1))
 
 returns-2 : tie.Need-returns-2
@@ -47,7 +47,7 @@ returns-2 c =
     let p = right-page (d .before .before) in
     let q = characters d in
     let a = d .before .before .before .before .before .before .before .args in
-    let n = lt-leb (placesFor (length (a .chars .now))) (length (a .out .now)) (omega (arith, c .before .places-for .ensures)) in
+    let n = lt-ltb (length (a .out .now)) (placesFor (length (a .chars .now))) (omega (arith, c .before .places-for .ensures)) in
     (simp (p, q, n), simp (p, q, n))
 
 returns-3 : tie.Need-returns-3

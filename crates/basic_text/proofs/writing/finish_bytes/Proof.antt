@@ -4,7 +4,7 @@ use mathlib.Core.List.{[]}
 use native.Mathlib.Omega.{arith}
 use denote.Ref.{now}
 use lib.ListN.{length}
-use Rattle.isolate_unassigned.specs.Isolate.{finishOf}
+use Rattle.isolate_unassigned.specs.Isolate.{lastOwed}
 use Rattle.text_output.specs.Step.{stepsOf}
 use Rattle.text_write.specs.Inner.{writerAt, pushed}
 use Rattle.basic_text.proofs.Moved.{moved, moved-at, moved-few, finish-few, own-writer, own-at}
@@ -20,7 +20,7 @@ finish-requires c κs =
     let w = writerAt (a .w) (now (a .escape)) in
     let own = c .before .before .at-place .ensures in
     let is = own-writer (a .w) _ own (now (a .escape)) in
-    let last = stepsOf w [] (finishOf (a .isolator)) in
+    let last = stepsOf w [] (lastOwed (a .isolator)) in
     let few : length (pushed last) ≤ 67 = finish-few w (a .isolator) (p .0) in
     (rw is (p .0), (p .1 .0, rw (is, own-at (a .w) _ own) (omega (arith, few))))
 
@@ -32,7 +32,7 @@ move-behind-requires c κs =
     let w = writerAt (a .w) (now (a .escape)) in
     let own = c .before .before .before .before .before .before .before .before .at-place .ensures in
     let is = own-writer (a .w) _ own (now (a .escape)) in
-    let last = stepsOf w [] (finishOf (a .isolator)) in
+    let last = stepsOf w [] (lastOwed (a .isolator)) in
     let few : length (pushed last) ≤ 67 = finish-few w (a .isolator) (p .0) in
     let x = c .before .before .before .before .before .finish .result in
     let e = rw (is, own-at (a .w) _ own) at (c .before .before .before .before .before .finish .ensures) in
@@ -46,7 +46,7 @@ returns c =
     let w = writerAt (a .w) (now (a .escape)) in
     let own = c .before .before .before .before .before .before .before .before .before .before .before .at-place .ensures in
     let is = own-writer (a .w) _ own (now (a .escape)) in
-    let last = stepsOf w [] (finishOf (a .isolator)) in
+    let last = stepsOf w [] (lastOwed (a .isolator)) in
     let few : length (pushed last) ≤ 67 = finish-few w (a .isolator) (p .0) in
     let x = c .before .before .before .before .before .before .before .before .finish .result in
     let e = rw (is, own-at (a .w) _ own) at (c .before .before .before .before .before .before .before .before .finish .ensures) in
