@@ -179,6 +179,35 @@ table =
       acts = write 5 (0x61 ∷ 0x62 ∷ []) ∷ [];
       expected = told (8 ∷ []) (0 ∷ 0 ∷ 1 ∷ 0 ∷ []) [] ∷ [];
     }
+    -- six are enough
+    ∷ record {
+      mode = Plain;
+      page = 0 ∷ 1 ∷ 0 ∷ 0x377 ∷ [];
+      acts = write 6 (0x61 ∷ 0x0A ∷ []) ∷ [];
+      expected = told (0 ∷ 2 ∷ []) (0 ∷ 0 ∷ 0 ∷ 0 ∷ []) (0x61 ∷ 0x0A ∷ []) ∷ [];
+    }
+    -- a kept character needs a place of its own, and no more
+    ∷ record {
+      mode = Plain;
+      page = 0 ∷ 1 ∷ 0 ∷ 0x377 ∷ [];
+      acts = write 200 (0x61 ∷ 0x7F ∷ []) ∷ write 3 (0x0A ∷ []) ∷ write 4 (0x0A ∷ []) ∷ [];
+      expected =
+          told (4 ∷ 2 ∷ 0x7F ∷ []) (1 ∷ 0 ∷ 1 ∷ 0 ∷ []) (0x61 ∷ []) ∷
+          told (8 ∷ []) (0 ∷ 0 ∷ 1 ∷ 0 ∷ []) (0x61 ∷ []) ∷
+          told (0 ∷ 2 ∷ []) (0 ∷ 0 ∷ 0 ∷ 0 ∷ []) (0x61 ∷ 0x0A ∷ []) ∷
+          [];
+    }
+    -- so does a held one
+    ∷ record {
+      mode = Color;
+      page = 0 ∷ 1 ∷ 0 ∷ 0x377 ∷ [];
+      acts = write 200 (0x1B ∷ 0x5B ∷ []) ∷ write 4 (0x6D ∷ []) ∷ write 5 (0x6D ∷ []) ∷ [];
+      expected =
+          told (0 ∷ 0 ∷ []) (0 ∷ 4 ∷ 0 ∷ 2 ∷ []) [] ∷
+          told (8 ∷ []) (0 ∷ 4 ∷ 0 ∷ 2 ∷ []) [] ∷
+          told (0 ∷ 3 ∷ []) (0 ∷ 2 ∷ 0 ∷ 0 ∷ []) (0x1B ∷ 0x5B ∷ 0x6D ∷ []) ∷
+          [];
+    }
     -- 34F unassigned: a wrong page
     ∷ record {
       mode = Plain;

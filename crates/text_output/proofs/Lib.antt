@@ -3,5 +3,8 @@ pub mod Answers
 pub mod Writable
 pub mod Passing
 pub mod Modes
+pub mod Steps
 pub mod Kept
+pub mod Refusals
+pub mod Sound
 pub mod Examples

@@ -1,0 +1,180 @@
+-- What each refusal leaves, for every record, page, input and places. Each answer of a definition lists its number, and so every sentence
+-- that does not speak of this number asks for nothing, by computing. Assumes nothing.
+--     write-leaves, write-bytes-leaves    what a write of characters, of bytes leaves
+--     flush-leaves, close-leaves          what a flush, a close leaves
+--     second-closes                       a second close after one refused by 11, 12 or 13 succeeds
+use Prim.Native.Nat.{ℕ, _+_}
+use mathlib.Core.Bool.{true, false, not, _&&_}
+use mathlib.Core.List.{List, [], _∷_}
+use mathlib.Core.Path.{_≡_, refl}
+use lib.Dec.{eqb, ltb}
+use lib.ListN.{length, getD}
+use lib.Seq.{sets}
+use Rattle.unicode.specs.Chars.{areChars}
+use Rattle.unicode.specs.Utf8.{charsOf}
+use Rattle.unicode.proofs.Kit.{never, by, split, both-true}
+use Rattle.page.specs.Page.{accepted}
+use Rattle.text_utils.specs.Classes.{basicTextStart}
+use Rattle.text_output.specs.declared.Ground.the-variants.{Newline, ZwjOrPrepend, Other}
+use Rattle.text_output.specs.declared.State.{State}
+use Rattle.text_output.specs.declared.State.the-variants.{Ground, Esc, Csi}
+use Rattle.text_output.specs.declared.TextOutput.{TextOutput}
+use Rattle.text_output.specs.Writer.{Given, sound, keeping, refusedBy, abandonedBy}
+use Rattle.text_output.specs.Step.{Stepped, goes, stops}
+use Rattle.text_output.specs.Write.{runIn, finished, placesFor, writeRefusal, writeStrOf, beginsNone, writeOf}
+use Rattle.text_output.specs.Close.{expecting, flushIn, flushOf, closeIn, closeOf}
+use Rattle.text_output.specs.Refusals.{Call, write, flush, close, refusalIn, oneOf, isClose, isQuiet, isOther, isSparing, Leaves, SecondCloses}
+use Rattle.text_output.proofs.Steps.{StepRefusal, four, six, Holds, mode-holds}
+
+-- ---- the three kinds of answer
+module _ (call : Call) (w : TextOutput) (places : List ℕ) where
+  -- a refusal that changes nothing
+  quiet : (n : ℕ) → isOther call n ≡ false → eqb n 5 ≡ false → isClose call && not (eqb n 9) ≡ false →
+      Leaves call w places (record { given = refusedBy n w; places = places })
+  quiet n other five again =
+      record {
+        nothing = λ e. (refl, (refl, refl));
+        after-newline = λ e. never (rw other at e);
+        expectation-stays = λ e. refl;
+        spent-by-5 = λ e. never (rw five at e);
+        set-by-close = λ e. never (rw again at e);
+        kept-stay = λ e. (refl, refl);
+      }
+
+  -- a refusal that tells the caller to abandon, of the writer before it is put after a newline
+  loud : (n : ℕ) (values : List ℕ) (v : TextOutput) (after : List ℕ) → isQuiet call n ≡ false →
+      (isSparing call n ≡ true → v .«expect_starter» ≡ w .«expect_starter») →
+      (eqb n 5 ≡ true → v .«expect_starter» ≡ false) →
+      (isClose call && not (eqb n 9) ≡ true → v .«expect_starter» ≡ true) →
+      (oneOf (3 ∷ 11 ∷ 12 ∷ 13 ∷ []) n ≡ true → (v .kept ≡ w .kept) × (after ≡ places)) →
+      Leaves call w places (record { given = abandonedBy (n ∷ values) v; places = after })
+  loud n values v after other sparing five again kept =
+      record {
+        nothing = λ e. never (rw other at e);
+        after-newline = λ e. (refl, (refl, refl));
+        expectation-stays = sparing;
+        spent-by-5 = five;
+        set-by-close = again;
+        kept-stay = kept;
+      }
+
+  -- a success: no sentence but that on close speaks of it
+  handed : (numbers : List ℕ) (next : TextOutput) (after : List ℕ) → getD numbers 0 0 ≡ 0 →
+      (isClose call ≡ true → next .«expect_starter» ≡ true) →
+      Leaves call w places (record { given = record { numbers = numbers; abandon = false; next = next }; places = after })
+  handed numbers next after zero again =
+      record {
+        nothing = λ e. never (rw zero at e);
+        after-newline = λ e. never (rw zero at e);
+        expectation-stays = λ e. never (rw zero at e);
+        spent-by-5 = λ e. never (rw zero at e);
+        set-by-close = λ e. again (both-true (isClose call) _ e .0);
+        kept-stay = λ e. never (rw zero at e);
+      }
+
+-- ---- a flush and a close
+module _ (w : TextOutput) (places : List ℕ) where
+  flush-in : (s : State) → Leaves flush w places (record { given = flushIn s w; places = places })
+  flush-in (Ground Newline) = handed flush w places [] (expecting w) places refl (λ e. refl)
+  flush-in (Ground ZwjOrPrepend) =
+      loud flush w places 11 [] w places refl (λ e. refl) (λ e. never e) (λ e. never e) (λ e. (refl, refl))
+  flush-in (Ground Other) = handed flush w places [] (expecting w) places refl (λ e. refl)
+  flush-in Esc = quiet flush w places 13 refl refl refl
+  flush-in Csi = quiet flush w places 13 refl refl refl
+
+  pub flush-leaves : Leaves flush w places (record { given = flushOf w; places = places })
+  unfolding flushOf
+  flush-leaves =
+      split (λ (g : Given). Leaves flush w places (record { given = g; places = places })) (sound w) (λ e. flush-in (w .state))
+      (λ e. quiet flush w places 9 refl refl refl)
+
+  closed-by : (n : ℕ) → isQuiet close n ≡ false → isSparing close n ≡ false → eqb n 5 ≡ false →
+      Leaves close w places (record { given = abandonedBy (n ∷ []) (expecting w); places = places })
+  closed-by n other sparing five =
+      loud close w places n [] (expecting w) places other (λ e. never (rw sparing at e)) (λ e. never (rw five at e)) (λ e. refl)
+      (λ e. (refl, refl))
+
+  close-in : (s : State) → Leaves close w places (record { given = closeIn s w; places = places })
+  close-in (Ground Newline) = handed close w places [] (expecting w) places refl (λ e. refl)
+  close-in (Ground ZwjOrPrepend) = closed-by 11 refl refl refl
+  close-in (Ground Other) = closed-by 12 refl refl refl
+  close-in Esc = closed-by 13 refl refl refl
+  close-in Csi = closed-by 13 refl refl refl
+
+  pub close-leaves : Leaves close w places (record { given = closeOf w; places = places })
+  unfolding closeOf
+  close-leaves =
+      split (λ (g : Given). Leaves close w places (record { given = g; places = places })) (sound w) (λ e. close-in (w .state))
+      (λ e. quiet close w places 9 refl refl refl)
+
+-- ---- a second close
+second-in : (w : TextOutput) (s : State) → oneOf (11 ∷ 12 ∷ 13 ∷ []) (refusalIn (closeIn s w)) ≡ true →
+    closeOf (closeIn s w .next) .numbers ≡ []
+unfolding closeOf
+second-in w (Ground Newline) e = never e
+second-in w (Ground ZwjOrPrepend) e = refl
+second-in w (Ground Other) e = refl
+second-in w Esc e = refl
+second-in w Csi e = refl
+
+pub second-closes : (w : TextOutput) → SecondCloses w
+unfolding closeOf
+second-closes w =
+    split (λ (g : Given). oneOf (11 ∷ 12 ∷ 13 ∷ []) (refusalIn g) ≡ true → closeOf (g .next) .numbers ≡ []) (sound w)
+    (λ s. second-in w (w .state)) (λ s e. never e)
+
+-- ---- a write
+-- a number that speaks of no change
+abbrev LeavesAll : ℕ → Type 0
+LeavesAll n = (isOther write n ≡ false) × (eqb n 5 ≡ false)
+
+-- 9, 2, 1 and 8 are such
+refusal-quiet : (w : TextOutput) (p chars : List ℕ) (room : ℕ) → LeavesAll (writeRefusal w p chars room)
+unfolding writeRefusal
+refusal-quiet w p chars room =
+    split LeavesAll (not (sound w)) (λ e. (refl, refl))
+    (λ e.
+    split LeavesAll (not (accepted p)) (λ a. (refl, refl))
+    (λ a.
+    split LeavesAll (not (areChars chars)) (λ c. (refl, refl))
+    (λ c. split LeavesAll (ltb room (placesFor w (length chars))) (λ r. (refl, refl)) (λ r. (refl, refl)))))
+
+module _ (w : TextOutput) (places : List ℕ) where
+  -- a refused step
+  stopped-leaves : {n : List ℕ} → StepRefusal n → (v : TextOutput) (after : List ℕ) → v .«expect_starter» ≡ w .«expect_starter» →
+      Leaves write w places (record { given = abandonedBy n v; places = after })
+  stopped-leaves four v after h =
+      loud write w places 4 _ v after refl (λ q. h) (λ q. never q) (λ q. never q) (λ q. never q)
+  stopped-leaves six v after h =
+      loud write w places 6 [] v after refl (λ q. h) (λ q. never q) (λ q. never q) (λ q. never q)
+
+  -- how a write ends, by its steps
+  finished-leaves : (p : List ℕ) (s : Stepped) → Holds (λ (v : TextOutput). v .«expect_starter» ≡ w .«expect_starter») s →
+      Leaves write w places (finished p s places)
+  finished-leaves p (goes xs v) h =
+      let k = v .kept + length xs in
+      let after = sets places (v .kept) xs in
+      split (λ (g : Given). Leaves write w places (record { given = g; places = after }))
+      (v .«expect_starter» && (ltb 0 k && not (basicTextStart p (getD after 0 0))))
+      (λ e. loud write w places 5 [] (keeping v false k) after refl (λ q. never q) (λ q. refl) (λ q. never q) (λ q. never q))
+      (λ e. handed write w places (0 ∷ k ∷ []) (keeping v false 0) after refl (λ q. never q))
+  finished-leaves p (stops xs v n) h =
+      stopped-leaves (h .1) (keeping v (v .«expect_starter») (v .kept + length xs)) _ (h .0)
+
+  pub write-leaves : (p chars : List ℕ) → Leaves write w places (writeStrOf w p chars places)
+  unfolding writeStrOf
+  write-leaves p chars =
+      let n = writeRefusal w p chars (length places) in
+      let q = refusal-quiet w p chars (length places) in
+      split (Leaves write w places) (eqb n 0)
+      (λ e.
+      finished-leaves p (runIn (w .mode) p w chars)
+      (mode-holds (λ (v : TextOutput). v .«expect_starter» ≡ w .«expect_starter») (λ v g h. h) (λ v s t c f m h. h) p (w .mode) w chars refl))
+      (λ e. quiet write w places n (q .0) (q .1) refl)
+
+  pub write-bytes-leaves : (p bytes : List ℕ) → Leaves write w places (writeOf w p bytes places .outcome)
+  unfolding writeOf
+  write-bytes-leaves p bytes =
+      by (sound w && (accepted p && beginsNone bytes))
+      (λ e. rw e (loud write w places 3 [] w places refl (λ q. refl) (λ q. never q) (λ q. never q) (λ q. (refl, refl))))
+      (λ e. rw e (write-leaves p (charsOf bytes)))
