@@ -19,7 +19,7 @@ use Rattle.text_output.specs.declared.State.{State as WriterState}
 use Rattle.text_output.specs.declared.State.the-variants.{Ground as Grounded, Esc as InEsc, Csi as InCsi}
 use Rattle.text_output.specs.declared.TextOutput.{TextOutput}
 use Rattle.text_output.specs.Writer.{BytesOutcome}
-use Rattle.text_output.specs.Write.{accepts}
+use Rattle.text_output.specs.Write.{succeeds}
 use Rattle.basic_text.specs.declared.Record.{Record}
 use Rattle.basic_text.specs.declared.Reply.{Reply}
 use Rattle.basic_text.specs.declared.Writer.{Writer}
@@ -172,11 +172,11 @@ writerNumbers w =
 
 -- how many characters an accepted write hands out, by its answer's numbers; else 0
 abbrev pub handedOut : List ℕ → ℕ
-handedOut ns = cond (accepts ns) (getD ns 1 0) 0
+handedOut ns = cond (succeeds ns) (getD ns 1 0) 0
 
 -- the number of a refused write's reason, by its answer's numbers; else 0
 abbrev pub reasonIn : List ℕ → ℕ
-reasonIn ns = cond (accepts ns) 0 (getD ns 1 0)
+reasonIn ns = cond (succeeds ns) 0 (getD ns 1 0)
 
 -- a byte write's answer: behind the reason's number its values, each 0 where there is none
 abbrev pub writeReplyOf : BytesOutcome → WriteReply

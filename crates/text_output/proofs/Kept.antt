@@ -20,7 +20,7 @@ use Rattle.text_output.specs.declared.Mode.{Mode}
 use Rattle.text_output.specs.declared.TextOutput.{TextOutput}
 use Rattle.text_output.specs.Writer.{Given, sound, keeping, refusedBy, abandonedBy}
 use Rattle.text_output.specs.Step.{Stepped, goes, stops}
-use Rattle.text_output.specs.Write.{runIn, finished, writeRefusal, writeStrOf, beginsNone, writeOf}
+use Rattle.text_output.specs.Write.{runIn, endedBy, writeRefusal, writeStrOf, beginsNone, writeOf}
 use Rattle.text_output.specs.Kept.{KeptFirst}
 use Rattle.text_output.proofs.Steps.{StepRefusal, four, six, Holds, mode-holds}
 
@@ -67,8 +67,8 @@ module _ (w : TextOutput) (places : List ℕ) where
       }
 
   -- how a write ends, by its steps
-  finished-keeps : (p : List ℕ) (s : Stepped) → Keeps (w .kept) s → KeptFirst w places (finished p s places)
-  finished-keeps p (goes xs v) h =
+  ended-keeps : (p : List ℕ) (s : Stepped) → Keeps (w .kept) s → KeptFirst w places (endedBy p s places)
+  ended-keeps p (goes xs v) h =
       let k = v .kept + length xs in
       let after = sets places (v .kept) xs in
       let same = take-sets (w .kept) xs places (v .kept) (omega (arith, h)) in
@@ -76,7 +76,7 @@ module _ (w : TextOutput) (places : List ℕ) where
       (v .«expect_starter» && (ltb 0 k && not (basicTextStart p (getD after 0 0))))
       (λ e. refused-keeps after (abandonedBy (5 ∷ []) (keeping v false k)) same (omega arith) (omega (arith, h)))
       (λ e. handed-keeps after k (keeping v false 0) same (omega (arith, h)) refl)
-  finished-keeps p (stops xs v n) h =
+  ended-keeps p (stops xs v n) h =
       refused-keeps (sets places (v .kept) xs) _ (take-sets (w .kept) xs places (v .kept) (omega (arith, h .0))) (refusal-first (h .1))
       (omega (arith, h .0))
 
@@ -85,7 +85,7 @@ module _ (w : TextOutput) (places : List ℕ) where
   kept-first p chars =
       let n = writeRefusal w p chars (length places) in
       split (KeptFirst w places) (eqb n 0)
-      (λ e. finished-keeps p (runIn (w .mode) p w chars) (mode-keeps p (w .kept) (w .mode) w chars refl))
+      (λ e. ended-keeps p (runIn (w .mode) p w chars) (mode-keeps p (w .kept) (w .mode) w chars refl))
       (λ e. refused-keeps places (refusedBy n w) refl (omega (arith, eqb-false n 0 e)) (omega arith))
 
   pub kept-first-bytes : (p bytes : List ℕ) → KeptFirst w places (writeOf w p bytes places .outcome)

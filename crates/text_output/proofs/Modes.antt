@@ -137,13 +137,13 @@ module _ (p : List ℕ) where
   -- from after a newline, the steps of parts of writable characters lead there again where the last part is empty
   parts-go : (part : List ℕ) (rest : List (List ℕ)) (w : TextOutput) → w .state ≡ Grounded Newline → w .held ≡ 0 →
       all writable part ≡ true → allParts writable rest ≡ true → lastEmpty (empty part) rest ≡ true →
-      partsOf p w (part ∷ rest) ≡ goes (isolatedParts p (part ∷ rest)) (onGround w (Grounded Newline))
+      partsOf p w (part ∷ rest) ≡ goes (isolatedParts p (part ∷ rest)) (onGround w Newline)
   unfolding moreParts isolateOf
   parts-go [] [] w s n f g l = rw (isolated-goes p [] w Newline s n f)
   parts-go (c ∷ part) [] w s n f g l = never l
   parts-go part (next ∷ rest) w s n f g l =
       let k = both-true (all writable next) (allParts writable rest) g in
-      rw (isolated-goes p part w Newline s n f, parts-go next rest (onGround w (Grounded Newline)) refl refl (k .0) (k .1) l)
+      rw (isolated-goes p part w Newline s n f, parts-go next rest (onGround w Newline) refl refl (k .0) (k .1) l)
 
 -- ---- CRLF
 pub passes-crlf : (p : List ℕ) → accepted p ≡ true → (q : List ℕ) →

@@ -7,7 +7,7 @@
 --     ends-isolated        a run that ends well ends well isolated
 --     ends-on-newline      after characters that end well a writer is after a newline
 --     lines-go             from after a newline, the steps of one run of writable characters that end well lead there again
---     write-runs           a write that 9, 2, 1 and 8 let through is its steps, finished
+--     write-runs           a write that 9, 2, 1 and 8 let through ends as its steps led
 --     Handed, hands-out    what stands in the first places is handed out if it starts well
 --     Closes, closes-on-newline    after a newline a close succeeds
 --     isolated-fits        a run isolated fits the room of a write
@@ -45,7 +45,7 @@ use Rattle.text_output.specs.declared.Mode.the-variants.{Plain}
 use Rattle.text_output.specs.declared.TextOutput.{TextOutput}
 use Rattle.text_output.specs.Writer.{Given, fresh, sound, onGround}
 use Rattle.text_output.specs.Step.{goes}
-use Rattle.text_output.specs.Write.{runOf, runIn, handOut, finished, placesFor, writeRefusal, writeStrOf}
+use Rattle.text_output.specs.Write.{runOf, runIn, handOut, endedBy, placesFor, writeRefusal, writeStrOf}
 use Rattle.text_output.specs.Close.{closeOf}
 use Rattle.text_output.specs.Passing.{PassesIn}
 use Rattle.text_output.proofs.Writable.{writable, groundOf, groundAfter, isolated-goes}
@@ -96,12 +96,12 @@ ends-on-newline (c ∷ cs) g b f h = ends-on-newline cs (groundOf c) (eqb c 0x0A
 
 -- ---- the write
 pub lines-go : (p : List ℕ) → accepted p ≡ true → (cs : List ℕ) (w : TextOutput) → w .state ≡ Grounded Newline → w .held ≡ 0 →
-    all writable cs ≡ true → endsWell true cs ≡ true → runOf p w cs ≡ goes (isolateOf p cs) (onGround w (Grounded Newline))
+    all writable cs ≡ true → endsWell true cs ≡ true → runOf p w cs ≡ goes (isolateOf p cs) (onGround w Newline)
 lines-go p a cs w s n f l =
     rw (ends-on-newline (isolateOf p cs) Newline true (λ t. refl) (ends-isolated p a cs l)) at (isolated-goes p cs w Newline s n f)
 
 pub write-runs : (w : TextOutput) (p cs places : List ℕ) → sound w ≡ true → accepted p ≡ true → areChars cs ≡ true →
-    placesFor w (length cs) ≤ length places → writeStrOf w p cs places ≡ finished p (runIn (w .mode) p w cs) places
+    placesFor w (length cs) ≤ length places → writeStrOf w p cs places ≡ endedBy p (runIn (w .mode) p w cs) places
 unfolding writeStrOf writeRefusal
 write-runs w p cs places s a c room = rw (s, a, c, le-ltb (length places) (placesFor w (length cs)) room)
 

@@ -21,7 +21,7 @@ use Rattle.text_output.specs.declared.State.the-variants.{Ground, Esc, C
 use Rattle.text_output.specs.declared.TextOutput.{TextOutput}
 use Rattle.text_output.specs.Writer.{Given, sound, keeping, refusedBy, abandonedBy}
 use Rattle.text_output.specs.Step.{Stepped, goes, stops}
-use Rattle.text_output.specs.Write.{runIn, finished, placesFor, writeRefusal, writeStrOf, beginsNone, writeOf}
+use Rattle.text_output.specs.Write.{runIn, endedBy, placesFor, writeRefusal, writeStrOf, beginsNone, writeOf}
 use Rattle.text_output.specs.Close.{expecting, flushIn, flushOf, closeIn, closeOf}
 use Rattle.text_output.specs.Refusals.{Call, write, flush, close, refusalIn, oneOf, isClose, isQuiet, isOther, isSparing, Leaves, SecondCloses}
 use Rattle.text_output.proofs.Steps.{StepRefusal, four, six, Holds, mode-holds}
@@ -149,16 +149,16 @@ module _ (w : TextOutput) (places : List ℕ) where
       loud write w places 6 [] v after refl (λ q. h) (λ q. never q) (λ q. never q) (λ q. never q)
 
   -- how a write ends, by its steps
-  finished-leaves : (p : List ℕ) (s : Stepped) → Holds (λ (v : TextOutput). v .«expect_starter» ≡ w .«expect_starter») s →
-      Leaves write w places (finished p s places)
-  finished-leaves p (goes xs v) h =
+  ended-leaves : (p : List ℕ) (s : Stepped) → Holds (λ (v : TextOutput). v .«expect_starter» ≡ w .«expect_starter») s →
+      Leaves write w places (endedBy p s places)
+  ended-leaves p (goes xs v) h =
       let k = v .kept + length xs in
       let after = sets places (v .kept) xs in
       split (λ (g : Given). Leaves write w places (record { given = g; places = after }))
       (v .«expect_starter» && (ltb 0 k && not (basicTextStart p (getD after 0 0))))
       (λ e. loud write w places 5 [] (keeping v false k) after refl (λ q. never q) (λ q. refl) (λ q. never q) (λ q. never q))
       (λ e. handed write w places (0 ∷ k ∷ []) (keeping v false 0) after refl (λ q. never q))
-  finished-leaves p (stops xs v n) h =
+  ended-leaves p (stops xs v n) h =
       stopped-leaves (h .1) (keeping v (v .«expect_starter») (v .kept + length xs)) _ (h .0)
 
   pub write-leaves : (p chars : List ℕ) → Leaves write w places (writeStrOf w p chars places)
@@ -168,7 +168,7 @@ module _ (w : TextOutput) (places : List ℕ) where
       let q = refusal-quiet w p chars (length places) in
       split (Leaves write w places) (eqb n 0)
       (λ e.
-      finished-leaves p (runIn (w .mode) p w chars)
+      ended-leaves p (runIn (w .mode) p w chars)
       (mode-holds (λ (v : TextOutput). v .«expect_starter» ≡ w .«expect_starter») (λ v g h. h) (λ v s t c f m h. h) p (w .mode) w chars refl))
       (λ e. quiet write w places n (q .0) (q .1) refl)
 

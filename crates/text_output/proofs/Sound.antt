@@ -21,9 +21,9 @@ use Rattle.text_output.specs.declared.Ground.the-variants.{Newline, ZwjO
 use Rattle.text_output.specs.declared.State.{State}
 use Rattle.text_output.specs.declared.State.the-variants.{Ground, Esc, Csi}
 use Rattle.text_output.specs.declared.TextOutput.{TextOutput}
-use Rattle.text_output.specs.Writer.{Given, Outcome, BytesOutcome, heldIn, sound}
+use Rattle.text_output.specs.Writer.{Given, Outcome, BytesOutcome, escapeLimit, heldIn, sound}
 use Rattle.text_output.specs.Step.{Stepped, goes, stops, holding}
-use Rattle.text_output.specs.Write.{runIn, finished, writeRefusal, writeStrOf, beginsNone, writeOf}
+use Rattle.text_output.specs.Write.{runIn, endedBy, writeRefusal, writeStrOf, beginsNone, writeOf}
 use Rattle.text_output.specs.Close.{flushIn, flushOf, closeIn, closeOf, abandonOf}
 use Rattle.text_output.proofs.Steps.{Grows, opened, begun, longer, Holds, mode-holds}
 
@@ -37,26 +37,26 @@ hold-sound : (w : TextOutput) (s t : State) (c : ℕ) → heldIn s (w .held) ≡
 hold-sound w (Ground g) Esc c h opened = rw (eqb-true (w .held) 0 h)
 hold-sound w Esc Csi c h begun = rw (eqb-true (w .held) 1 h)
 hold-sound w Csi Csi c h (longer low) =
-    both (le-leb (w .held + 1) 64 (omega (arith, low))) (le-leb 2 (w .held + 1) (omega (arith, leb-true 2 (w .held) h)))
+    both (le-leb (w .held + 1) escapeLimit (omega (arith, low))) (le-leb 2 (w .held + 1) (omega (arith, leb-true 2 (w .held) h)))
 
 held-by : (w : TextOutput) (s : State) → w .state ≡ s → IsSound w → heldIn s (w .held) ≡ true
-held-by w s e h = rw e at (both-true (leb (w .held) 64) (heldIn (w .state) (w .held)) h .1)
+held-by w s e h = rw e at (both-true (leb (w .held) escapeLimit) (heldIn (w .state) (w .held)) h .1)
 
 -- ---- a write
 module _ (w : TextOutput) (h : IsSound w) where
-  finished-sound : (p : List ℕ) (s : Stepped) (places : List ℕ) → Holds IsSound s → IsSound (finished p s places .given .next)
-  finished-sound p (goes xs v) places s =
+  ended-sound : (p : List ℕ) (s : Stepped) (places : List ℕ) → Holds IsSound s → IsSound (endedBy p s places .given .next)
+  ended-sound p (goes xs v) places s =
       let after = sets places (v .kept) xs in
       split (λ (g : Given). IsSound (g .next))
       (v .«expect_starter» && (ltb 0 (v .kept + length xs) && not (basicTextStart p (getD after 0 0)))) (λ e. refl) (λ e. s)
-  finished-sound p (stops xs v n) places s = refl
+  ended-sound p (stops xs v n) places s = refl
 
   pub write-sound : (p chars places : List ℕ) → IsSound (writeStrOf w p chars places .given .next)
   unfolding writeStrOf
   write-sound p chars places =
       split (λ (o : Outcome). IsSound (o .given .next)) (eqb (writeRefusal w p chars (length places)) 0)
       (λ e.
-      finished-sound p (runIn (w .mode) p w chars) places
+      ended-sound p (runIn (w .mode) p w chars) places
       (mode-holds IsSound (λ v g s. refl) (λ v s t c e g i. hold-sound v s t c (held-by v s e i) g) p (w .mode) w chars h))
       (λ e. h)
 

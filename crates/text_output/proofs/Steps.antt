@@ -5,10 +5,9 @@
 --     Holds          what some steps leave true
 --     mode-holds     .. the steps of a write, in any mode
 use Prim.Native.Nat.{ℕ, _<_}
-use mathlib.Core.Bool.{_&&_}
 use mathlib.Core.List.{List, [], _∷_}
 use mathlib.Core.Path.{_≡_, refl}
-use lib.Dec.{eqb, leb, ltb}
+use lib.Dec.{eqb, ltb}
 use borrow.Author.Tests.{ltb-true}
 use Rattle.unicode.proofs.Kit.{split}
 use Rattle.text_output.specs.declared.Ground.{Ground}
@@ -17,9 +16,9 @@ use Rattle.text_output.specs.declared.State.the-variants.{Ground as Grou
 use Rattle.text_output.specs.declared.Mode.{Mode}
 use Rattle.text_output.specs.declared.Mode.the-variants.{Plain, Crlf, Color}
 use Rattle.text_output.specs.declared.TextOutput.{TextOutput}
-use Rattle.text_output.specs.Writer.{onGround}
-use Rattle.text_output.specs.Step.{Stepped, goes, stops, behind, andThen, holding, isColor, groundStep, escStep, csiChar, csiStep, stepIn, stepOf, stepsOf}
-use Rattle.text_output.specs.Write.{runOf, parts, lineEnd, moreParts, partsOf, runIn}
+use Rattle.text_output.specs.Writer.{escapeLimit, onGround}
+use Rattle.text_output.specs.Step.{Stepped, goes, stops, behind, andThen, holding, isColor, groundStep, escStep, inSequence, csiStep, stepIn, stepOf, stepsOf}
+use Rattle.text_output.specs.Write.{runOf, parts, putCrlf, moreParts, partsOf, runIn}
 
 -- by 4 with the reason's number and values, or by 6
 pub data StepRefusal : List ℕ → Type 0 where
@@ -30,24 +29,16 @@ pub data StepRefusal : List ℕ → Type 0 where
 pub data Grows : State → ℕ → State → Type 0 where
   opened : {g : Ground} {held : ℕ} → Grows (Grounded g) held Esc
   begun : {held : ℕ} → Grows Esc held Csi
-  longer : {held : ℕ} → held < 64 → Grows Csi held Csi
+  longer : {held : ℕ} → held < escapeLimit → Grows Csi held Csi
 
 -- a fact of the writer after some steps, and where one is refused, its numbers
 abbrev pub Holds : (TextOutput → Type 0) → Stepped → Type 0
 Holds I (goes xs w) = I w
 Holds I (stops xs w n) = I w × StepRefusal n
 
-module _ (I : TextOutput → Type 0) (ground : (w : TextOutput) (g : Ground) → I w → I (onGround w (Grounded g)))
+module _ (I : TextOutput → Type 0) (ground : (w : TextOutput) (g : Ground) → I w → I (onGround w g))
     (hold : (w : TextOutput) (s t : State) (c : ℕ) → w .state ≡ s → Grows s (w .held) t → I w → I (holding w t c)) where
   -- ---- one step
-  -- a parameter or `m` in an escape
-  csi-holds : (w : TextOutput) (c : ℕ) → w .state ≡ Csi → I w → Holds I (csiChar w c)
-  csi-holds w c e h =
-      split (Holds I) (ltb (w .held) 64)
-      (λ low.
-      split (Holds I) (eqb c 0x6D) (λ m. ground w _ h) (λ m. hold w Csi Csi c e (longer (ltb-true (w .held) 64 low)) h))
-      (λ full. (h, six))
-
   -- any character in any state
   step-holds : (w : TextOutput) (s : State) (error : List ℕ) (c : ℕ) → w .state ≡ s → I w → Holds I (stepIn s w error c)
   unfolding groundStep escStep csiStep
@@ -58,8 +49,13 @@ module _ (I : TextOutput → Type 0) (ground : (w : TextOutput) (g : Ground) →
       split (Holds I) (eqb c 0x0A) (λ k. ground w _ h) (λ k. split (Holds I) (eqb c 0x1A) (λ r. (h, four)) (λ r. ground w _ h)))
   step-holds w Esc error c e h = split (Holds I) (eqb c 0x5B) (λ q. hold w Esc Csi c e begun h) (λ q. (h, four))
   step-holds w Csi error c e h =
-      split (Holds I) (leb 0x20 c && leb c 0x3F) (λ q. csi-holds w c e h)
-      (λ q. split (Holds I) (eqb c 0x6D) (λ k. csi-holds w c e h) (λ k. (h, four)))
+      split (Holds I) (inSequence c)
+      (λ q.
+      split (Holds I) (ltb (w .held) escapeLimit)
+      (λ k.
+      split (Holds I) (eqb c 0x6D) (λ m. ground w _ h) (λ m. hold w Csi Csi c e (longer (ltb-true (w .held) escapeLimit k)) h))
+      (λ k. (h, six)))
+      (λ q. (h, four))
 
   -- ---- steps one after the other
   -- what was added before does not matter
@@ -92,7 +88,7 @@ module _ (I : TextOutput → Type 0) (ground : (w : TextOutput) (g : Ground) →
     unfolding moreParts
     more-hold [] w h = h
     more-hold (part ∷ rest) w h =
-        then-holds (lineEnd w) (λ next. andThen (runOf p next part) (λ after. moreParts p after rest)) (ground w _ h)
+        then-holds (putCrlf w) (λ next. andThen (runOf p next part) (λ after. moreParts p after rest)) (ground w _ h)
         (λ next g. then-holds (runOf p next part) (λ after. moreParts p after rest) (run-holds next part g) (λ after e. more-hold rest after e))
 
     -- .. over all parts

@@ -70,19 +70,19 @@ module _ (c : ℕ) (h : writable c ≡ true) where
       ne-eqb c 0x1A (λ e. omega (arith, refused-substitute, rw e at a))
 
   step-goes : (w : TextOutput) (g : Ground) (error : List ℕ) → w .state ≡ Grounded g →
-      stepOf w error c ≡ goes (c ∷ []) (onGround w (Grounded (groundOf c)))
+      stepOf w error c ≡ goes (c ∷ []) (onGround w (groundOf c))
   unfolding groundStep groundOf
   step-goes w g error s = by (eqb c 0x0A) (λ n. rw (s, no-escape, n)) (λ n. rw (s, no-escape, n, no-substitute))
 
 pub run-goes : (cs : List ℕ) (w : TextOutput) (g : Ground) (error : List ℕ) → w .state ≡ Grounded g → w .held ≡ 0 →
-    all writable cs ≡ true → stepsOf w error cs ≡ goes cs (onGround w (Grounded (groundAfter g cs)))
+    all writable cs ≡ true → stepsOf w error cs ≡ goes cs (onGround w (groundAfter g cs))
 unfolding stepsOf
 run-goes [] w g error s n h = rw (← s, ← n)
 run-goes (c ∷ cs) w g error s n h =
     let q = both-true (writable c) (all writable cs) h in
     rw (
       step-goes c (q .0) w g error s,
-      run-goes cs (onGround w (Grounded (groundOf c))) (groundOf c) error refl refl (q .1),
+      run-goes cs (onGround w (groundOf c)) (groundOf c) error refl refl (q .1),
     )
 
 -- ---- a write
@@ -102,7 +102,7 @@ checked-same (c ∷ cs) h =
     rw (both-true (eqb (reasonOf c) 0) (not (eqb c 0x1B)) (q .0) .0, checked-same cs (q .1))
 
 pub isolated-goes : (p cs : List ℕ) (w : TextOutput) (g : Ground) → w .state ≡ Grounded g → w .held ≡ 0 → all writable cs ≡ true →
-    runOf p w cs ≡ goes (isolateOf p cs) (onGround w (Grounded (groundAfter g (isolateOf p cs))))
+    runOf p w cs ≡ goes (isolateOf p cs) (onGround w (groundAfter g (isolateOf p cs)))
 unfolding runOf
 isolated-goes p cs w g s n h =
     rw (checked-same cs h)

@@ -28,7 +28,7 @@ flushIn Csi w = refusedBy 13 w
 unfoldable pub flushOf : TextOutput → Given
 flushOf w = cond (sound w) (flushIn (w .state) w) (refusedBy 9 w)
 
--- "12 close after another character that is no newline"; "close sets it again, refused or not"
+-- "12 close after another character that is no newline"; "close sets it again, refused or not": but by 9, which changes nothing
 abbrev pub closeIn : State → TextOutput → Given
 closeIn (Ground Newline) w = done (expecting w)
 closeIn (Ground ZwjOrPrepend) w = abandonedBy (11 ∷ []) (expecting w)

@@ -11,9 +11,9 @@ use Rattle.text_output.specs.Writer.{Outcome}
 pub record KeptFirst (w : TextOutput) (places : List ℕ) (wrote : Outcome) : Type 0 where
   -- they stand in the first places, and stay there
   pub places-stay : take (w .kept) (wrote .places) ≡ take (w .kept) places
-  -- "Success hands out the first k characters
+  -- "Success hands out the first k characters": the kept ones are among them
   pub first-out : (k : ℕ) → wrote .given .numbers ≡ 0 ∷ k ∷ [] → w .kept ≤ k
-  -- and sets kept to 0."
+  -- Success "sets kept to 0"
   pub none-left : (k : ℕ) → wrote .given .numbers ≡ 0 ∷ k ∷ [] → wrote .given .next .kept ≡ 0
   -- refused by any number, they stay kept
   pub stay-kept : (n : ℕ) (values : List ℕ) → 0 < n → wrote .given .numbers ≡ n ∷ values → w .kept ≤ wrote .given .next .kept

@@ -13,9 +13,9 @@ use Rattle.text_output.specs.Close.{closeOf}
 
 -- of the characters that go out, what the one write returned and left, and what the close returned
 pub record Passes (out : List ℕ) (wrote : Outcome) (closed : Given) : Type 0 where
-  -- "The number handed out
+  -- "The number handed out": how many these are
   pub number : wrote .given .numbers ≡ 0 ∷ length out ∷ []
-  -- and the characters in those places are" these: of a plain writer "the queue isolated as one run with the page."
+  -- "the characters in those places": these; of a plain writer "the queue isolated as one run with the page"
   pub characters : take (length out) (wrote .places) ≡ out
   -- "the close on the one that the write returned": it succeeds
   pub closes : closed .numbers ≡ []

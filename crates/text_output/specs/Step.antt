@@ -1,6 +1,6 @@
 -- One character in one state, and a run of them: `state_machine_char` of text_output.rs. Characters are hexadecimal. Assumes nothing.
 use Prim.Native.Nat.{ℕ, _+_}
-use mathlib.Core.Bool.{Bool, true, false, cond, _&&_}
+use mathlib.Core.Bool.{Bool, true, false, cond, _&&_, _||_}
 use mathlib.Core.List.{List, [], _∷_, _++_}
 use lib.Dec.{eqb, leb, ltb}
 use lib.ListN.{take, set}
@@ -13,7 +13,7 @@ use Rattle.text_output.specs.declared.State.the-variants.{Ground, Esc, C
 use Rattle.text_output.specs.declared.Mode.{Mode}
 use Rattle.text_output.specs.declared.Mode.the-variants.{Plain, Crlf, Color}
 use Rattle.text_output.specs.declared.TextOutput.{TextOutput}
-use Rattle.text_output.specs.Writer.{onGround}
+use Rattle.text_output.specs.Writer.{escapeLimit, onGround}
 
 -- what some steps come to
 pub data Stepped : Type 0 where
@@ -58,26 +58,26 @@ isColor Color = true
 unfoldable pub groundStep : TextOutput → List ℕ → ℕ → Stepped
 groundStep w error c =
     cond (eqb c 0x1B) (cond (isColor (w .mode)) (goes [] (holding w Esc c)) (unwritable w (errorNumbers Escape)))
-    (cond (eqb c 0x0A) (goes (c ∷ []) (onGround w (Ground Newline)))
+    (cond (eqb c 0x0A) (goes (c ∷ []) (onGround w Newline))
     (cond (eqb c 0x1A) (unwritable w error)
-    (goes (c ∷ []) (onGround w (Ground (cond (basicTextEnd c) Other ZwjOrPrepend))))))
+    (goes (c ∷ []) (onGround w (cond (basicTextEnd c) Other ZwjOrPrepend)))))
 
 -- after ESC. "In an escape, a refused character gives reason 15."
 unfoldable pub escStep : TextOutput → ℕ → Stepped
 escStep w c = cond (eqb c 0x5B) (goes [] (holding w Csi c)) (unwritable w (errorNumbers UnrecognizedEscape))
 
--- 20..3F or `m`, in a sequence begun by ESC `[`: `m` ends it, and all of it goes out. "6 an escape holding 64 characters gets
--- 20..3F or `m`."
-abbrev pub csiChar : TextOutput → ℕ → Stepped
-csiChar w c =
-    cond (ltb (w .held) 64)
-    (cond (eqb c 0x6D) (goes (take (w .held) (w .«escape_sequence») ++ c ∷ []) (onGround w (Ground Other))) (goes [] (holding w Csi c)))
-    (stops [] w (6 ∷ []))
+-- "20..3F or `m`": what a sequence begun by ESC `[` takes
+abbrev pub inSequence : ℕ → Bool
+inSequence c = (leb 0x20 c && leb c 0x3F) || eqb c 0x6D
 
--- in a sequence begun by ESC `[`
+-- in a sequence begun by ESC `[`: `m` ends it, and all of it goes out. "6 an escape holding 64 characters gets 20..3F or `m`."
 unfoldable pub csiStep : TextOutput → ℕ → Stepped
 csiStep w c =
-    cond (leb 0x20 c && leb c 0x3F) (csiChar w c) (cond (eqb c 0x6D) (csiChar w c) (unwritable w (errorNumbers UnrecognizedEscape)))
+    cond (inSequence c)
+    (cond (ltb (w .held) escapeLimit)
+    (cond (eqb c 0x6D) (goes (take (w .held) (w .«escape_sequence») ++ c ∷ []) (onGround w Other)) (goes [] (holding w Csi c)))
+    (stops [] w (6 ∷ [])))
+    (unwritable w (errorNumbers UnrecognizedEscape))
 
 abbrev pub stepIn : State → TextOutput → List ℕ → ℕ → Stepped
 stepIn (Ground g) w error c = groundStep w error c

@@ -13,7 +13,6 @@ use Rattle.text_utils.specs.Classes.{basicTextStart}
 use Rattle.check_char.specs.Check.{reasonOf, checkNumbers}
 use Rattle.isolate_unassigned.specs.Isolate.{isolateOf}
 use Rattle.text_output.specs.declared.Ground.the-variants.{Newline}
-use Rattle.text_output.specs.declared.State.the-variants.{Ground}
 use Rattle.text_output.specs.declared.Mode.{Mode}
 use Rattle.text_output.specs.declared.Mode.the-variants.{Plain, Crlf, Color}
 use Rattle.text_output.specs.declared.TextOutput.{TextOutput}
@@ -30,7 +29,7 @@ abbrev pub firstError : List ℕ → List ℕ
 firstError [] = []
 firstError (c ∷ cs) = cond (eqb (reasonOf c) 0) (firstError cs) (checkNumbers c)
 
--- ", then isolated, then stepped through `state_machine_char`": `state_machine`
+-- "then isolated, then stepped through `state_machine_char`": `state_machine`
 unfoldable pub runOf : List ℕ → TextOutput → List ℕ → Stepped
 runOf p w chars = stepsOf w (firstError chars) (isolateOf p (map checked chars))
 
@@ -45,14 +44,14 @@ parts [] = [] ∷ []
 parts (c ∷ cs) = cond (eqb c 0x0A) ([] ∷ parts cs) (intoFirst c (parts cs))
 
 -- "0A gives 0D 0A", from any state
-abbrev pub lineEnd : TextOutput → Stepped
-lineEnd w = goes (0x0D ∷ 0x0A ∷ []) (onGround w (Ground Newline))
+abbrev pub putCrlf : TextOutput → Stepped
+putCrlf w = goes (0x0D ∷ 0x0A ∷ []) (onGround w Newline)
 
 -- the parts that follow one, with 0D 0A before each
 unfoldable pub moreParts : List ℕ → TextOutput → List (List ℕ) → Stepped
 moreParts p w [] = goes [] w
 moreParts p w (part ∷ rest) =
-    andThen (lineEnd w) (λ next. andThen (runOf p next part) (λ after. moreParts p after rest))
+    andThen (putCrlf w) (λ next. andThen (runOf p next part) (λ after. moreParts p after rest))
 
 abbrev pub partsOf : List ℕ → TextOutput → List (List ℕ) → Stepped
 partsOf p w [] = goes [] w
@@ -75,10 +74,10 @@ handOut p w k places =
 
 -- how a write ends: what its steps added stands in the places behind the kept ones. "After 4 or 6 the characters before the refused
 -- one .. stay kept"; "4, 6 .. leave the expectation as it was"
-abbrev pub finished : List ℕ → Stepped → List ℕ → Outcome
-finished p (goes xs w) places =
+abbrev pub endedBy : List ℕ → Stepped → List ℕ → Outcome
+endedBy p (goes xs w) places =
     record { given = handOut p w (w .kept + length xs) (sets places (w .kept) xs); places = sets places (w .kept) xs }
-finished p (stops xs w n) places =
+endedBy p (stops xs w n) places =
     record {
       given = abandonedBy n (keeping w (w .«expect_starter») (w .kept + length xs));
       places = sets places (w .kept) xs;
@@ -95,10 +94,10 @@ writeRefusal w p chars room =
     cond (not (sound w)) 9
     (cond (not (accepted p)) 2 (cond (not (areChars chars)) 1 (cond (ltb room (placesFor w (length chars))) 8 0)))
 
--- ", then 4 or 6 as met, then 5."
+-- "then 4 or 6 as met, then 5"
 unfoldable pub writeStrOf : TextOutput → List ℕ → List ℕ → List ℕ → Outcome
 writeStrOf w p chars places =
-    cond (eqb (writeRefusal w p chars (length places)) 0) (finished p (runIn (w .mode) p w chars) places)
+    cond (eqb (writeRefusal w p chars (length places)) 0) (endedBy p (runIn (w .mode) p w chars) places)
     (record { given = refusedBy (writeRefusal w p chars (length places)) w; places = places })
 
 -- ---- a write of bytes
@@ -106,14 +105,14 @@ writeStrOf w p chars places =
 abbrev pub beginsNone : List ℕ → Bool
 beginsNone bytes = ltb 0 (length bytes) && eqb (length (charsOf bytes)) 0
 
--- whether an answer's numbers are those of a write that is accepted
-abbrev pub accepts : List ℕ → Bool
-accepts [] = false
-accepts (n ∷ ns) = eqb n 0
+-- whether an answer's numbers are those of a write that succeeds
+abbrev pub succeeds : List ℕ → Bool
+succeeds [] = false
+succeeds (n ∷ ns) = eqb n 0
 
--- how many bytes were taken: those of the longest valid prefix, where the write is accepted
+-- how many bytes were taken: those of the longest valid prefix where the write succeeds. Document 01 is silent on a refused write's: none.
 abbrev pub usedBy : List ℕ → List ℕ → ℕ
-usedBy numbers bytes = cond (accepts numbers) (length (encodeAll (charsOf bytes))) 0
+usedBy numbers bytes = cond (succeeds numbers) (length (encodeAll (charsOf bytes))) 0
 
 abbrev pub taking : List ℕ → Outcome → BytesOutcome
 taking bytes o = record { used = usedBy (o .given .numbers) bytes; outcome = o }

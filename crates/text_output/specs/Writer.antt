@@ -6,9 +6,10 @@ use mathlib.Core.List.{List, [], _∷_}
 use lib.Dec.{eqb, leb}
 use lib.ListN.{replicate}
 use Rattle.check_char.specs.Check.{errorNumbers}
+use Rattle.text_output.specs.declared.Ground.{Ground}
 use Rattle.text_output.specs.declared.Ground.the-variants.{Newline}
 use Rattle.text_output.specs.declared.State.{State}
-use Rattle.text_output.specs.declared.State.the-variants.{Ground, Esc, Csi}
+use Rattle.text_output.specs.declared.State.the-variants.{Ground as Grounded, Esc, Csi}
 use Rattle.text_output.specs.declared.Mode.{Mode}
 use Rattle.text_output.specs.declared.TextOutput.{TextOutput}
 use Rattle.text_output.specs.declared.Wrote.{Wrote}
@@ -20,28 +21,43 @@ use Rattle.text_output.specs.declared.Answer.the-variants.{Done, Refused
 use Rattle.text_output.specs.declared.Answered.{Answered}
 
 -- ---- the record
+-- how many characters an escape can hold: "the 64-character limit"
+abbrev pub escapeLimit : ℕ
+escapeLimit = 64
+
 -- as first made, in a mode
 abbrev pub fresh : Mode → TextOutput
 fresh mode =
-    record { mode = mode; «expect_starter» = true; state = Ground Newline; kept = 0; held = 0; «escape_sequence» = replicate 64 0 }
+    record {
+      mode = mode;
+      «expect_starter» = true;
+      state = Grounded Newline;
+      kept = 0;
+      held = 0;
+      «escape_sequence» = replicate escapeLimit 0;
+    }
+
+-- what a writer in BOM mode hands out beside its record: "FEFF is handed out on opening, as a result, in no lent place"
+abbrev pub byteOrderMark : ℕ
+byteOrderMark = 0xFEFF
 
 -- "1 after ESC, 2 or more after ESC `[`, else 0": the held counts that a state can have
 abbrev pub heldIn : State → ℕ → Bool
-heldIn (Ground g) n = eqb n 0
+heldIn (Grounded g) n = eqb n 0
 heldIn Esc n = eqb n 1
 heldIn Csi n = leb 2 n
 
 -- what 9 does not refuse: "a writer record claiming over 64 held, or a held count that its state can't have"
 abbrev pub sound : TextOutput → Bool
-sound w = leb (w .held) 64 && heldIn (w .state) (w .held)
+sound w = leb (w .held) escapeLimit && heldIn (w .state) (w .held)
 
--- in a state outside an escape, where nothing is held
-abbrev pub onGround : TextOutput → State → TextOutput
-onGround w state =
+-- outside an escape, where nothing is held
+abbrev pub onGround : TextOutput → Ground → TextOutput
+onGround w ground =
     record {
       mode = w .mode;
       «expect_starter» = w .«expect_starter»;
-      state = state;
+      state = Grounded ground;
       kept = w .kept;
       held = 0;
       «escape_sequence» = w .«escape_sequence»;
@@ -49,7 +65,7 @@ onGround w state =
 
 -- "its after-newline state": `reset_state`; expectation and kept characters stay
 abbrev pub afterNewline : TextOutput → TextOutput
-afterNewline w = onGround w (Ground Newline)
+afterNewline w = onGround w Newline
 
 -- with the expectation and the kept count given
 abbrev pub keeping : TextOutput → Bool → ℕ → TextOutput
@@ -78,7 +94,8 @@ wroteTells (Refused n) = false
 wroteTells (Abandon n) = true
 wroteTells (Unwritable e) = true
 
--- no number where it succeeds, or the refusal's
+-- no number where it succeeds, or the refusal's. No two answers may list alike: 0 alone is what `Refused(0)` lists. A write's success
+-- lists 0 and a second number.
 abbrev pub answerNumbers : Answer → List ℕ
 answerNumbers Done = []
 answerNumbers (Denied n) = n ∷ []

@@ -8,7 +8,7 @@ ghost use mathlib.Core.Path.{_≡_};
 ghost use mathlib.Core.List.{[], _∷_};
 ghost use Rattle.text_output.specs.declared.Mode.the-variants.{Plain, Crlf, Color};
 ghost use Rattle.text_output.specs.declared.State.the-variants.{Ground as Grounded};
-ghost use Rattle.text_output.specs.Writer.{fresh, heldIn, sound, answeredGiven, abandonedBy};
+ghost use Rattle.text_output.specs.Writer.{fresh, byteOrderMark, heldIn, sound, answeredGiven, abandonedBy};
 ghost use Rattle.text_output.specs.Close.{expecting, flushIn, flushOf, closeIn, closeOf, abandonOf};
 
 // What stands last outside an escape.
@@ -137,7 +137,7 @@ impl TextOutput {
 
     // A plain writer, and FEFF for the caller to write first. FEFF is no part of the text, so the record is a fresh one.
     pub fn with_bom_compatibility() -> Opened
-        ensures bom { λ r. ⌜ r .bom ≡ 0xFEFF ⌝ }
+        ensures bom { λ r. ⌜ r .bom ≡ byteOrderMark ⌝ }
         ensures writer { λ r. ⌜ r .writer ≡ fresh Plain ⌝ }
     {
         let writer = TextOutput::in_mode(Mode::Plain);

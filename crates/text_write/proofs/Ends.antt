@@ -1,6 +1,6 @@
 -- The end of a write, and the room that it has. Assumes nothing.
 --     not-twice       of a test
---     finished-end    how a write ends, by where its steps led
+--     ended-stored    how a write ends, by where its steps led
 --     write-fits      a write that 8 lets through has room for its steps
 --     write-keeps     steps leave the kept count
 use Prim.Native.Nat.{ℕ, _+_, _*_, _≤_}
@@ -14,7 +14,7 @@ use Rattle.text_output.specs.declared.Mode.{Mode}
 use Rattle.text_output.specs.declared.TextOutput.{TextOutput}
 use Rattle.text_output.specs.Writer.{sound}
 use Rattle.text_output.specs.Step.{Stepped, goes, stops}
-use Rattle.text_output.specs.Write.{runIn, finished, placesFor}
+use Rattle.text_output.specs.Write.{runIn, endedBy, placesFor}
 use Rattle.text_output.proofs.Kept.{Keeps, mode-keeps}
 use Rattle.text_write.specs.Inner.{pushed, writerAfter, stored, isCrlf, endOf}
 use Rattle.text_write.proofs.Rest.{run-rest}
@@ -29,10 +29,10 @@ run-stays : (mode : Mode) (p cs : List ℕ) (w : TextOutput) → sound w ≡ tru
 run-stays mode p cs w s =
     rw (run-rest mode p w cs) (stays-more (3 * length cs + 0) _ w _ (omega arith) (rest-stays (isCrlf mode) p cs w fresh s))
 
-pub finished-end : (p : List ℕ) (s : Stepped) (places : List ℕ) (kept : ℕ) → writerAfter s .kept ≡ kept →
-    finished p s places ≡ endOf p (stored kept places s)
-finished-end p (goes xs w) places kept e = rw e refl
-finished-end p (stops xs w n) places kept e = rw e refl
+pub ended-stored : (p : List ℕ) (s : Stepped) (places : List ℕ) (kept : ℕ) → writerAfter s .kept ≡ kept →
+    endedBy p s places ≡ endOf p (stored kept places s)
+ended-stored p (goes xs w) places kept e = rw e refl
+ended-stored p (stops xs w n) places kept e = rw e refl
 
 pub write-fits : (mode : Mode) (p cs : List ℕ) (w : TextOutput) (n : ℕ) → sound w ≡ true → placesFor w (length cs) ≤ n →
     w .kept + length (pushed (runIn mode p w cs)) ≤ n

@@ -26,11 +26,11 @@ use Rattle.text_write.specs.declared.store.Place.{Place}
 use Rattle.text_write.specs.declared.store.Pushed.{Pushed}
 use Rattle.text_write.specs.declared.store.Pushed.the-variants.{On, Stopped}
 use Rattle.text_output.specs.Writer.{Outcome, sound, afterNewline, wroteNumbers, writtenOutcome, bytesOutcome, refusedBy, abandonedBy}
-use Rattle.text_output.specs.Write.{runIn, placesFor, writeRefusal, writeStrOf, beginsNone, accepts, taking, writeOf}
+use Rattle.text_output.specs.Write.{runIn, placesFor, writeRefusal, writeStrOf, beginsNone, succeeds, taking, writeOf}
 use Rattle.text_output.specs.Close.{abandonOf}
 use Rattle.text_write.specs.Inner.{writerAt, pushed, stored, progress, endOf, refusedBefore, bytesRefusal, refusedBytes}
 use Rattle.text_output.proofs.Passing.{write-runs}
-use Rattle.text_write.proofs.Ends.{finished-end, write-fits, write-keeps}
+use Rattle.text_write.proofs.Ends.{ended-stored, write-fits, write-keeps}
 
 pub before-zero : (w : TextOutput) (p : List ℕ) → refusedBefore w p ≡ 0 → (sound w ≡ true) × (accepted p ≡ true)
 before-zero w p h =
@@ -67,7 +67,7 @@ module _ (w : TextOutput) (p cs places : List ℕ) where
           endOf p (stored (w .kept) places (runIn (w .mode) p w cs)) ≡ writeStrOf w p cs places
       write-ends r =
           rw (write-runs w p cs places s a c r)
-          (sym (finished-end p (runIn (w .mode) p w cs) places (w .kept) (write-keeps (w .mode) p cs w)))
+          (sym (ended-stored p (runIn (w .mode) p w cs) places (w .kept) (write-keeps (w .mode) p cs w)))
 
 -- ---- bytes
 module _ (w : TextOutput) (p bytes places : List ℕ) where
@@ -184,7 +184,7 @@ pub abandoned : (w : TextOutput) → abandonOf w ≡ afterNewline w
 unfolding abandonOf
 abandoned w = refl
 
-pub taken : (x : WrittenBytes) (y : Written) (n : ℕ) (places bytes : List ℕ) → x .used ≡ cond (accepts (wroteNumbers (y .answer))) n 0 →
+pub taken : (x : WrittenBytes) (y : Written) (n : ℕ) (places bytes : List ℕ) → x .used ≡ cond (succeeds (wroteNumbers (y .answer))) n 0 →
     x .answer ≡ y .answer → x .next ≡ y .next → n ≡ length (encodeAll (charsOf bytes)) →
     bytesOutcome x places ≡ taking bytes (writtenOutcome y places)
 taken x y n places bytes u a m e = rw (u, a, m, e) refl

@@ -26,7 +26,7 @@ use Rattle.text_output.specs.declared.Mode.{Mode}
 use Rattle.text_output.specs.declared.Mode.the-variants.{Plain, Crlf, Color}
 use Rattle.text_output.specs.declared.TextOutput.{TextOutput}
 use Rattle.text_output.specs.Step.{Stepped, goes, stops, behind, andThen, groundStep, escStep, csiStep, stepIn, stepOf, stepsOf}
-use Rattle.text_output.specs.Write.{checked, firstError, runOf, parts, lineEnd, moreParts, partsOf, runIn}
+use Rattle.text_output.specs.Write.{checked, firstError, runOf, parts, putCrlf, moreParts, partsOf, runIn}
 use Rattle.text_write.specs.Inner.{refusedIn, isCrlf, turnOf, isolatorAfter}
 use Rattle.text_write.proofs.Asked.{step-asked}
 
@@ -179,7 +179,7 @@ parts-split (c ∷ cs) =
     (λ e. let s = parts-split cs in record { first = c ∷ s .first; rest = s .rest; is = rw (e, s .is) })
 
 more-first : (p : List ℕ) (w : TextOutput) (ps : List (List ℕ)) → Split ps →
-    moreParts p w ps ≡ andThen (lineEnd w) (λ next. partsLeft p next fresh ps)
+    moreParts p w ps ≡ andThen (putCrlf w) (λ next. partsLeft p next fresh ps)
 unfolding moreParts runOf isolateOf
 more-first p w ps s = rw (s .is) refl
 
@@ -193,8 +193,8 @@ parts-rest p (c ∷ cs) w r =
     let owed = stepsOf w [] (lastOwed r) in
     rw e
     (andThen-alike owed _ _ (λ next. more-first p next (parts cs) s)
-    ∙ sym (andThen-assoc owed lineEnd (λ next. partsLeft p next fresh (parts cs)))
-    ∙ andThen-alike (andThen owed lineEnd) _ _ (λ next. parts-rest p cs next fresh)))
+    ∙ sym (andThen-assoc owed putCrlf (λ next. partsLeft p next fresh (parts cs)))
+    ∙ andThen-alike (andThen owed putCrlf) _ _ (λ next. parts-rest p cs next fresh)))
     (λ e.
     let turn = stepsOf w (checkNumbers c) (givesOut (isolatedBy p r (checked c))) in
     let r' = after (isolatedBy p r (checked c)) in

@@ -7,7 +7,7 @@
 --     rest-stays    of what is left of a write, three for each character, and the 34F that is owed
 use Prim.Native.Nat.{ℕ, _+_, _*_, _≤_}
 use mathlib.Core.Path.{_≡_, refl, _∙_}
-use mathlib.Core.Bool.{Bool, true, false, _&&_, _||_}
+use mathlib.Core.Bool.{Bool, true, false, _&&_}
 use mathlib.Core.List.{List, [], _∷_, _++_}
 use native.Mathlib.Omega.{arith}
 use lib.Dec.{eqb, leb, ltb}
@@ -25,9 +25,9 @@ use Rattle.text_output.specs.declared.State.the-variants.{Ground, Esc, Csi}
 use Rattle.text_output.specs.declared.TextOutput.{TextOutput}
 use Rattle.text_write.specs.declared.step.Step.{Step}
 use Rattle.text_write.specs.declared.step.Step.the-variants.{Out, Hold, Whole, NoColor, Unrecognized, Full}
-use Rattle.text_output.specs.Writer.{heldIn, sound}
-use Rattle.text_output.specs.Step.{Stepped, goes, stops, behind, andThen, isColor, stepOf, stepsOf}
-use Rattle.text_output.specs.Write.{checked, lineEnd}
+use Rattle.text_output.specs.Writer.{escapeLimit, heldIn, sound}
+use Rattle.text_output.specs.Step.{Stepped, goes, stops, behind, andThen, isColor, inSequence, stepOf, stepsOf}
+use Rattle.text_output.specs.Write.{checked, putCrlf}
 use Rattle.text_write.specs.Inner.{askedIn, pushed, writerAfter, turnOf, isolatorAfter}
 use Rattle.text_write.proofs.Asked.{doneBy, step-asked}
 use Rattle.text_write.proofs.Rest.{restOf, refused-stops}
@@ -64,7 +64,7 @@ stays-then n m w (stops xs v e) more t f = stays-more n (n + m) w (stops xs v e)
 -- the held count that a state can have, after a character is held
 fits : Step → ℕ → Bool
 fits (Out g) held = true
-fits (Hold s) held = leb (held + 1) 64 && heldIn s (held + 1)
+fits (Hold s) held = leb (held + 1) escapeLimit && heldIn s (held + 1)
 fits Whole held = true
 fits NoColor held = true
 fits Unrecognized held = true
@@ -79,15 +79,15 @@ asked-fits (Ground g) w c h =
     (λ e. by (eqb c 0x0A) (λ k. rw (e, k) refl) (λ k. by (basicTextEnd c) (λ b. rw (e, k, b) refl) (λ b. rw (e, k, b) refl)))
 asked-fits Esc w c h = let z = eqb-true (w .held) 1 h in by (eqb c 0x5B) (λ e. rw (e, z) refl) (λ e. rw e refl)
 asked-fits Csi w c h =
-    by ((leb 0x20 c && leb c 0x3F) || eqb c 0x6D)
+    by (inSequence c)
     (λ e.
-    by (ltb (w .held) 64)
+    by (ltb (w .held) escapeLimit)
     (λ k.
     by (eqb c 0x6D) (λ m. rw (e, k, m) refl)
     (λ m.
-    let low = ltb-true (w .held) 64 k in
+    let low = ltb-true (w .held) escapeLimit k in
     let two = leb-true 2 (w .held) h in
-    rw (e, k, m) (both (le-leb (w .held + 1) 64 (omega (arith, low))) (le-leb 2 (w .held + 1) (omega (arith, two))))))
+    rw (e, k, m) (both (le-leb (w .held + 1) escapeLimit (omega (arith, low))) (le-leb 2 (w .held + 1) (omega (arith, two))))))
     (λ k. rw (e, k) refl))
     (λ e. rw e refl)
 
@@ -113,7 +113,7 @@ step-stays w error c s =
     (λ e.
     let a = askedIn (w .state) (w .mode) (w .held) c in
     rw (step-asked w error c e a refl)
-    (done-stays a w c s (asked-fits (w .state) w c (both-true (leb (w .held) 64) (heldIn (w .state) (w .held)) s .1))))
+    (done-stays a w c s (asked-fits (w .state) w c (both-true (leb (w .held) escapeLimit) (heldIn (w .state) (w .held)) s .1))))
 
 -- ---- a run
 pub steps-stay : (cs : List ℕ) (w : TextOutput) (error : List ℕ) → sound w ≡ true → Stays (length cs) w (stepsOf w error cs)
@@ -124,8 +124,8 @@ steps-stay (c ∷ cs) w error s =
     (stays-then 1 (length cs) w (stepOf w error c) _ (step-stays w error c s) (λ v t. steps-stay cs v error t))
 
 -- ---- a write
-pub line-end-stays : (w : TextOutput) → Stays 2 w (lineEnd w)
-line-end-stays w = record { is-sound = refl; long = refl; size = omega arith }
+pub crlf-stays : (w : TextOutput) → Stays 2 w (putCrlf w)
+crlf-stays w = record { is-sound = refl; long = refl; size = omega arith }
 
 module _ (crlf : Bool) (p : List ℕ) (c : ℕ) where
   -- where 0A ends a part, and where not
@@ -133,7 +133,7 @@ module _ (crlf : Bool) (p : List ℕ) (c : ℕ) where
       Stays (length (lastOwed r) + 2) w (turnOf crlf p w r c)
   unfolding turnOf
   turn-stays-end w r s e =
-      rw e (stays-then (length (lastOwed r)) 2 w _ lineEnd (steps-stay (lastOwed r) w [] s) (λ v t. line-end-stays v))
+      rw e (stays-then (length (lastOwed r)) 2 w _ putCrlf (steps-stay (lastOwed r) w [] s) (λ v t. crlf-stays v))
 
   turn-stays-on : (w : TextOutput) (r : IsolateUnassigned) → sound w ≡ true → crlf && eqb c 0x0A ≡ false →
       Stays 2 w (turnOf crlf p w r c)

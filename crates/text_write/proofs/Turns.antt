@@ -4,12 +4,11 @@
 --     no-sub, checked-same, accepted-step    a character that the check accepts is stepped as itself
 --     checked-sub, refused-stored            a refused one, 1A, stops
 --     turn-end, after-end, turn-on, after-on    a turn at 0A that ends a part, and at any other character
-use Prim.Native.Nat.{ℕ, _+_}
+use Prim.Native.Nat.{ℕ}
 use mathlib.Core.Path.{_≡_, refl, sym, _∙_, ap}
 use mathlib.Core.Bool.{Bool, true, false, _&&_}
 use mathlib.Core.List.{List, [], _∷_, _++_}
 use native.Mathlib.Nat.{add-zero}
-use native.Mathlib.Omega.{arith}
 use lib.Dec.{eqb}
 use borrow.Author.Tests.{eqb-true}
 use Rattle.unicode.proofs.Kit.{by}
@@ -29,7 +28,7 @@ use Rattle.text_write.specs.declared.store.Place.{Place}
 use Rattle.text_write.specs.declared.store.Stop.{Stop}
 use Rattle.text_write.specs.declared.store.Pushed.the-variants.{On, Stopped}
 use Rattle.text_output.specs.Step.{andThen, stepOf, stepsOf}
-use Rattle.text_output.specs.Write.{checked, lineEnd}
+use Rattle.text_output.specs.Write.{checked, putCrlf}
 use Rattle.text_write.specs.Inner.{writerAt, stored, stopNumbers, progress, refusedIn, turnOf, isolatorAfter}
 use Rattle.text_write.proofs.Rest.{step-error, steps-one, refused-stops, accepted-no-sub, given-joined}
 
@@ -77,7 +76,7 @@ module _ (c : ℕ) (found : Checked) (told : reasonNumbers found ≡ checkNumber
 -- ---- the two ways of a turn
 module _ (crlf : Bool) (p : List ℕ) (w : TextOutput) (r : IsolateUnassigned) (c : ℕ) where
   pub turn-end : crlf && eqb c 0x0A ≡ true → (owed : Bool) → owed ≡ r .«need_cgj» →
-      turnOf crlf p w r c ≡ andThen (stepsOf w [] (joiner owed)) lineEnd
+      turnOf crlf p w r c ≡ andThen (stepsOf w [] (joiner owed)) putCrlf
   unfolding turnOf
   turn-end e owed o = rw (e, o) refl
 

@@ -1,8 +1,9 @@
--- What the private functions of this crate answer, step by step. No public contract cites this file. Assumes nothing.
+-- What the steps of a write answer one by one. Document 01, "Characters go out" and "Refused ..". Cited by private functions, and by
+-- public ones that are inner: only `basic_text` calls them; `write_str` and `write` cite `text_output` alone. Assumes nothing.
 use Prim.Native.Nat.{ℕ, _+_}
-use mathlib.Core.Bool.{Bool, true, false, cond, not, _&&_, _||_}
+use mathlib.Core.Bool.{Bool, true, false, cond, not, _&&_}
 use mathlib.Core.List.{List, [], _∷_}
-use lib.Dec.{eqb, leb, ltb}
+use lib.Dec.{eqb, ltb}
 use lib.ListN.{length}
 use lib.Seq.{sets}
 use Rattle.page.specs.Page.{accepted}
@@ -27,9 +28,9 @@ use Rattle.text_write.specs.declared.store.Stop.{Stop}
 use Rattle.text_write.specs.declared.store.Stop.the-variants.{Reason, Limit}
 use Rattle.text_write.specs.declared.store.Pushed.{Pushed}
 use Rattle.text_write.specs.declared.store.Pushed.the-variants.{On, Stopped}
-use Rattle.text_output.specs.Writer.{Given, Outcome, sound, keeping, refusedBy, abandonedBy}
-use Rattle.text_output.specs.Step.{Stepped, goes, stops, andThen, isColor, stepsOf}
-use Rattle.text_output.specs.Write.{checked, lineEnd, handOut, placesFor}
+use Rattle.text_output.specs.Writer.{Given, Outcome, escapeLimit, sound, keeping, refusedBy, abandonedBy}
+use Rattle.text_output.specs.Step.{Stepped, goes, stops, andThen, isColor, inSequence, stepsOf}
+use Rattle.text_output.specs.Write.{checked, putCrlf, handOut, placesFor}
 
 -- ---- a step, as small as it is asked for
 -- outside an escape, of a character that is no 1A
@@ -43,7 +44,7 @@ escAsked c = cond (eqb c 0x5B) (Hold Csi) Unrecognized
 
 abbrev pub csiAsked : ℕ → ℕ → Step
 csiAsked held c =
-    cond ((leb 0x20 c && leb c 0x3F) || eqb c 0x6D) (cond (ltb held 64) (cond (eqb c 0x6D) Whole (Hold Csi)) Full) Unrecognized
+    cond (inSequence c) (cond (ltb held escapeLimit) (cond (eqb c 0x6D) Whole (Hold Csi)) Full) Unrecognized
 
 abbrev pub askedIn : State → Mode → ℕ → ℕ → Step
 askedIn (Ground g) mode held c = groundAsked (isColor mode) c
@@ -125,7 +126,7 @@ isCrlf Color = false
 -- isolated and stepped
 unfoldable pub turnOf : Bool → List ℕ → TextOutput → IsolateUnassigned → ℕ → Stepped
 turnOf crlf p w r c =
-    cond (crlf && eqb c 0x0A) (andThen (stepsOf w [] (lastOwed r)) lineEnd)
+    cond (crlf && eqb c 0x0A) (andThen (stepsOf w [] (lastOwed r)) putCrlf)
     (stepsOf w (checkNumbers c) (givesOut (isolatedBy p r (checked c))))
 
 -- the isolator after it
@@ -158,7 +159,7 @@ bytesRefusal w p some n room =
 abbrev pub refusedBytes : ℕ → TextOutput → Given
 refusedBytes n w = cond (eqb n 3) (abandonedBy (3 ∷ []) w) (refusedBy n w)
 
--- whether an answer hands out
+-- whether an answer hands out; `succeeds` of its numbers says so of `Refused(0)` too
 abbrev pub handsOut : Wrote → Bool
 handsOut (HandedOut k) = true
 handsOut (Refused n) = false

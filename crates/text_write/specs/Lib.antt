@@ -1,2 +1,2 @@
--- What the contracts of private functions cite. The public contracts cite the definitions of `text_output`.
+-- What the contracts of inner functions cite. Those of `write_str` and `write` cite the definitions of `text_output`.
 pub mod Inner

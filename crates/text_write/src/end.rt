@@ -15,7 +15,7 @@ ghost use mathlib.Core.List.{[], _∷_};
 ghost use lib.ListN.{getD};
 ghost use Rattle.page.specs.Page.{accepted};
 ghost use Rattle.text_output.specs.Writer.{wroteNumbers, wroteTells, writtenOutcome};
-ghost use Rattle.text_output.specs.Write.{accepts};
+ghost use Rattle.text_output.specs.Write.{succeeds};
 ghost use Rattle.text_write.specs.declared.store.Pushed.the-variants.{On, Stopped};
 ghost use Rattle.text_write.specs.Inner.{writerAt, stopNumbers, progress, handsOut, startOrNone, keptBy, endOf};
 
@@ -61,7 +61,7 @@ fn start_or_none(page: &[u32], n: usize, first: u32) -> bool
 fn hand_out(page: &[u32], w: Place, escape: [u32; 64], first: u32) -> Written
     requires { ⌜ accepted (now page) ≡ true ⌝ }
     ensures outcome { λ r. ⌜ writtenOutcome r (first ∷ []) ≡ endOf (now (page .entry)) (progress (On w) escape (first ∷ [])) ⌝ }
-    ensures told { λ r. ⌜ handsOut (r .answer) ≡ accepts (wroteNumbers (r .answer)) ⌝ }
+    ensures told { λ r. ⌜ handsOut (r .answer) ≡ succeeds (wroteNumbers (r .answer)) ⌝ }
 {
     let mode = w.mode;
     let state = w.state;
@@ -96,7 +96,7 @@ fn hand_out(page: &[u32], w: Place, escape: [u32; 64], first: u32) -> Written
 fn refused(stop: Stop) -> Wrote
     ensures { λ r. ⌜ wroteNumbers r ≡ stopNumbers stop ⌝ }
     ensures { λ r. ⌜ wroteTells r ≡ true ⌝ }
-    ensures { λ r. ⌜ handsOut r ≡ accepts (wroteNumbers r) ⌝ }
+    ensures { λ r. ⌜ handsOut r ≡ succeeds (wroteNumbers r) ⌝ }
 {
     match stop {
         Stop::Reason(e) => Wrote::Unwritable(e),
@@ -107,7 +107,7 @@ fn refused(stop: Stop) -> Wrote
 // A refused step: the characters before it stay kept.
 fn keep(w: Place, stop: Stop, escape: [u32; 64]) -> Written
     ensures outcome { λ r. ⌜ writtenOutcome r [] .given ≡ keptBy (progress (Stopped w stop) escape []) ⌝ }
-    ensures told { λ r. ⌜ handsOut (r .answer) ≡ accepts (wroteNumbers (r .answer)) ⌝ }
+    ensures told { λ r. ⌜ handsOut (r .answer) ≡ succeeds (wroteNumbers (r .answer)) ⌝ }
 {
     let mode = w.mode;
     Written {
@@ -127,7 +127,7 @@ fn keep(w: Place, stop: Stop, escape: [u32; 64]) -> Written
 pub fn end_write(page: &[u32], pushed: Pushed, escape: [u32; 64], first: u32) -> Written
     requires { ⌜ accepted (now page) ≡ true ⌝ }
     ensures outcome { λ r. ⌜ writtenOutcome r (first ∷ []) ≡ endOf (now (page .entry)) (progress pushed escape (first ∷ [])) ⌝ }
-    ensures told { λ r. ⌜ handsOut (r .answer) ≡ accepts (wroteNumbers (r .answer)) ⌝ }
+    ensures told { λ r. ⌜ handsOut (r .answer) ≡ succeeds (wroteNumbers (r .answer)) ⌝ }
 {
     match pushed {
         Pushed::On(w) => hand_out(page, w, escape, first),

@@ -34,7 +34,7 @@ ghost use mathlib.Core.Bool.{cond};
 ghost use mathlib.Core.List.{[]};
 ghost use lib.Dec.{ltb};
 ghost use Rattle.text_output.specs.Writer.{wroteNumbers, writtenOutcome, bytesOutcome};
-ghost use Rattle.text_output.specs.Write.{placesFor, writeStrOf, accepts, writeOf};
+ghost use Rattle.text_output.specs.Write.{placesFor, writeStrOf, succeeds, writeOf};
 ghost use Rattle.text_write.specs.Inner.{refusedBefore, bytesRefusal, refusedBytes, handsOut};
 
 // Whether so many places are too few for a write of n characters, kept + held + 3 × n. Total: no sum is made, since a forged
@@ -156,8 +156,8 @@ pub fn write(w: TextOutput, page: &[u32], bytes: &[u8], out: &mut [u32]) -> Writ
 
 // A write of bytes that takes so many, where it is accepted. Inner: asks that nothing else says 0.
 pub fn taking(n: usize, written: Written) -> WrittenBytes
-    requires { ⌜ handsOut (written .answer) ≡ accepts (wroteNumbers (written .answer)) ⌝ }
-    ensures { λ r. ⌜ r .used ≡ cond (accepts (wroteNumbers (written .answer))) n 0 ⌝ }
+    requires { ⌜ handsOut (written .answer) ≡ succeeds (wroteNumbers (written .answer)) ⌝ }
+    ensures { λ r. ⌜ r .used ≡ cond (succeeds (wroteNumbers (written .answer))) n 0 ⌝ }
     ensures { λ r. ⌜ (r .answer ≡ written .answer) × (r .next ≡ written .next) ⌝ }
 {
     let answer = written.answer;

@@ -29,7 +29,7 @@ ghost use Rattle.isolate_unassigned.specs.Isolate.{stepOf as isolatedBy};
 ghost use Rattle.isolate_unassigned.specs.Meaning.{joiner};
 ghost use Rattle.text_output.specs.Writer.{sound};
 ghost use Rattle.text_output.specs.Step.{andThen, stepOf, stepsOf};
-ghost use Rattle.text_output.specs.Write.{checked, lineEnd, runIn};
+ghost use Rattle.text_output.specs.Write.{checked, putCrlf, runIn};
 ghost use Rattle.text_write.specs.Inner.{writerAt, pushed, stored, stopNumbers, progress, refusedIn, turnOf, isolatorAfter};
 
 // ---- before a character
@@ -151,11 +151,11 @@ fn line_end(w: Place, owed: bool, escape: &mut [u32], out: &mut [u32]) -> Pushed
     requires sound { ⌜ sound (writerAt w (now escape)) ≡ true ⌝ }
     requires long { ⌜ length (now escape) ≡ 64 ⌝ }
     requires room { ⌜
-        w .at + length (pushed (andThen (stepsOf (writerAt w (now escape)) [] (joiner owed)) lineEnd)) ≤ length (now out)
+        w .at + length (pushed (andThen (stepsOf (writerAt w (now escape)) [] (joiner owed)) putCrlf)) ≤ length (now out)
         ⌝ }
     ensures { λ r. ⌜
         progress r (now (escape .exit)) (now (out .exit))
-        ≡ stored (w .at) (now (out .entry)) (andThen (stepsOf (writerAt w (now (escape .entry))) [] (joiner owed)) lineEnd)
+        ≡ stored (w .at) (now (out .entry)) (andThen (stepsOf (writerAt w (now (escape .entry))) [] (joiner owed)) putCrlf)
         ⌝ }
 {
     let before = push_joiner(w, owed, escape, out);

@@ -7,7 +7,7 @@ use denote.Ref.{now}
 use lib.ListN.{length, length-set}
 use Rattle.isolate_unassigned.specs.Meaning.{joiner}
 use Rattle.text_output.specs.Step.{stepsOf}
-use Rattle.text_output.specs.Write.{lineEnd}
+use Rattle.text_output.specs.Write.{putCrlf}
 use Rattle.text_write.specs.Inner.{writerAt}
 use Rattle.text_write.proofs.Stays.{steps-stay}
 use Rattle.text_write.proofs.Progress.{on-then, off-then, first-fits, next-same, next-room}
@@ -33,7 +33,7 @@ fits c =
     let w = writerAt (a .w) (now (a .escape)) in
     let first = stepsOf w [] (joiner (a .owed)) in
     let e = rw (c .before .before2 .given .1) at (c .before .before .before .before .before .before .before .push-joiner .ensures) in
-    let room = next-room (a .w) (now (a .escape)) (now (a .out)) first _ (steps-stay (joiner (a .owed)) w [] (p .0)) _ _ _ e lineEnd (p .1 .1) in
+    let room = next-room (a .w) (now (a .escape)) (now (a .out)) first _ (steps-stay (joiner (a .owed)) w [] (p .0)) _ _ _ e putCrlf (p .1 .1) in
     let same = next-same (a .w) (now (a .escape)) (now (a .out)) first _ (steps-stay (joiner (a .owed)) w [] (p .0)) _ _ _ e in
     omega (arith, room, same)
 
@@ -43,7 +43,7 @@ push-joiner-requires c κs =
     let a = s .args in
     let p = s .pre in
     let first = stepsOf (writerAt (a .w) (now (a .escape))) [] (joiner (a .owed)) in
-    (p .0, (p .1 .0, omega (arith, p .1 .1, first-fits first lineEnd)))
+    (p .0, (p .1 .0, omega (arith, p .1 .1, first-fits first putCrlf)))
 
 enum-told : tie.Need-enum-told
 enum-told c = search needs
@@ -54,7 +54,7 @@ returns c =
     let a = s .args in
     let first = stepsOf (writerAt (a .w) (now (a .escape))) [] (joiner (a .owed)) in
     let e = rw (c .before .before2 .given .1) at (c .before .before .before .before .before .before .before .push-joiner .ensures) in
-    rw (← on-then (a .w .at) (now (a .out)) lineEnd first _ _ _ e) (unfold writerAt in simp add-one)
+    rw (← on-then (a .w .at) (now (a .out)) putCrlf first _ _ _ e) (unfold writerAt in simp add-one)
 
 returns-2 : tie.Need-returns-2
 returns-2 c =
@@ -62,7 +62,7 @@ returns-2 c =
     let a = s .args in
     let first = stepsOf (writerAt (a .w) (now (a .escape))) [] (joiner (a .owed)) in
     let e = rw (c .enum-told .given .1) at (c .before .before .before .before .before .before .push-joiner .ensures) in
-    rw (c .enum-told .given .1) (off-then (a .w .at) (now (a .out)) lineEnd first _ (c .enum-told .given .0 .1 .0) _ _ e)
+    rw (c .enum-told .given .1) (off-then (a .w .at) (now (a .out)) putCrlf first _ (c .enum-told .given .0 .1 .0) _ _ e)
 
 pub line-end-spec : {M : Type 1} → statement M
 line-end-spec =
