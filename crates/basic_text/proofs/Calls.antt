@@ -15,6 +15,7 @@ use borrow.Author.Tests.{le-ltb}
 use Rattle.unicode.specs.Chars.{areChars, filled}
 use Rattle.page.specs.Page.{accepted}
 use Rattle.isolate_unassigned.specs.declared.Answer.the-variants.{Written, Refused}
+use Rattle.isolate_unassigned.specs.Isolate.{writtenNumbers}
 use Rattle.text_input.specs.declared.Options.{Options}
 use Rattle.text_input.specs.declared.TextInput.{TextInput}
 use Rattle.text_input.specs.declared.Scanned.{Scanned}
@@ -28,19 +29,23 @@ use Rattle.basic_text.proofs.Stores.{stored-first}
 
 -- the answer s and the queue's bytes q are those of an outcome on the queue's numbers
 abbrev pub Answers : List ℕ → Outcome → Scanned → List ℕ → Type 0
-Answers queue whole s q = (s ≡ whole .given) × (q ≡ withNumbers (whole .places) queue)
+Answers queue whole s q = (outcome s (whole .places) ≡ whole) × (q ≡ withNumbers (whole .places) queue)
+
+-- an outcome is its answer and record with its places
+with-places : (s : Scanned) (places : List ℕ) (whole : Outcome) → outcome s places ≡ whole → outcome s (whole .places) ≡ whole
+with-places s places whole w = ap (λ (x : Outcome). outcome s (x .places)) (sym w) ∙ w
 
 -- an outcome that leaves the numbers leaves the bytes
 left-as-it-was : (queue : List ℕ) (s : Scanned) (whole : Outcome) → Bytes queue → outcome s (numbers queue) ≡ whole →
     Answers queue whole s queue
 left-as-it-was queue s whole k w =
-    (ap (λ (x : Outcome). x .given) w, sym (with-all queue k) ∙ ap (λ (x : Outcome). withNumbers (x .places) queue) w)
+    (with-places s _ whole w, sym (with-all queue k) ∙ ap (λ (x : Outcome). withNumbers (x .places) queue) w)
 
 -- an outcome that stores numbers in the first places stores their bytes there
 first-filled : (queue out q : List ℕ) (s : Scanned) (whole : Outcome) → Bytes queue → 4 * length out ≤ length queue →
     q ≡ filled (bytesOf out) queue → outcome s (filled out (numbers queue)) ≡ whole → Answers queue whole s q
 first-filled queue out q s whole k room e w = (
-  ap (λ (x : Outcome). x .given) w,
+  with-places s _ whole w,
   e ∙ sym (with-filled out queue k (omega (arith, length-numbers queue))) ∙ ap (λ (x : Outcome). withNumbers (x .places) queue) w,
 )
 
@@ -58,7 +63,9 @@ module _ (r : TextInput) (p : List ℕ) (o : Options) (chunk queue : List ℕ) (
   asked = rw (length-numbers chunk, length-numbers queue) e
 
   pub scan-refused : Bytes queue → (n ≡ 0 → ⊥) → Answers queue whole (record { answer = Refused n; next = r }) queue
-  scan-refused k h = left-as-it-was queue _ whole k (calls.refused-is r p o (numbers chunk) (numbers queue) n asked h)
+  scan-refused k h =
+      left-as-it-was queue (record { answer = Refused n; next = r }) whole k
+      (calls.refused-is r p o (numbers chunk) (numbers queue) n asked h)
 
   module _ (z : n ≡ 0) where
     pub right-page : accepted p ≡ true
@@ -90,31 +97,36 @@ module _ (r : TextInput) (p : List ℕ) (o : Options) (chunk queue : List ℕ) (
             let w =
             calls.accepted-is r p o (numbers chunk) (numbers queue) n asked z from f first same k next (filled out (numbers queue))
             (rw rest (h .0, (h .1 .0, refl))) in
-            first-filled queue out q _ whole b room (h .1 .1) w
+            first-filled queue out q (record { answer = Written k; next = next }) whole b room (h .1 .1) w
 
 -- ---- a finish
 module _ (r : TextInput) (eof : Bool) (queue : List ℕ) where
   pub finish-refused : Bytes queue → length queue / 4 < 2 →
       Answers queue (finishOf r eof (numbers queue)) (record { answer = Refused 8; next = r }) queue
   finish-refused k h =
-      left-as-it-was queue _ _ k (calls.finish-refused r eof (numbers queue) (omega (arith, length-numbers queue)))
+      left-as-it-was queue (record { answer = Refused 8; next = r }) _ k
+      (calls.finish-refused r eof (numbers queue) (omega (arith, length-numbers queue)))
 
   -- a finish on two places answered s and left them so
   module _ (s : Scanned) (two : List ℕ) (e : outcome s two ≡ finishOf r eof (0 ∷ 0 ∷ [])) where
-    given : s ≡ record { answer = Written (length (finishChars r eof)); next = finishNext r eof }
+    listed : writtenNumbers (s .answer) ≡ 0 ∷ length (finishChars r eof) ∷ []
     unfolding finishOf
-    given = ap (λ (x : Outcome). x .given) e
+    listed = ap (λ (x : Outcome). x .numbers) e
+
+    next-is : s .next ≡ finishNext r eof
+    unfolding finishOf
+    next-is = ap (λ (x : Outcome). x .next) e
 
     places : two ≡ filled (finishChars r eof) (0 ∷ 0 ∷ [])
     unfolding finishOf
     places = ap (λ (x : Outcome). x .places) e
 
     pub never-refused : (k : ℕ) → s .answer ≡ Refused k → ⊥
-    never-refused k h = let z : _≡_ {A = ℕ} 0 1 = cc (ap (λ (x : Scanned). x .answer) given) in omega arith
+    never-refused k h = let g = rw h at listed in let z : _≡_ {A = ℕ} 0 1 = cc in omega arith
 
     module _ (n : ℕ) (h : s .answer ≡ Written n) where
       count : n ≡ length (finishChars r eof)
-      count = cc (ap (λ (x : Scanned). x .answer) given)
+      count = let g = rw h at listed in cc
 
       pub held : (n ≤ length two) × (take n two ≡ finishChars r eof)
       held = stored-first (finishChars r eof) (0 ∷ 0 ∷ []) two n count places
@@ -127,7 +139,7 @@ module _ (r : TextInput) (eof : Bool) (queue : List ℕ) where
         unfolding finishOf
         whole-finish =
             let two-places : 2 ≤ length (numbers queue) = omega (arith, length-numbers queue) in
-            rw (le-ltb (length (numbers queue)) 2 two-places, given)
+            rw (le-ltb (length (numbers queue)) 2 two-places, listed, next-is)
 
         pub finished : Bytes queue → (q : List ℕ) → q ≡ sets queue (4 * 0) (bytesOf (take n two)) →
             Answers queue (finishOf r eof (numbers queue)) s q

@@ -5,13 +5,11 @@ use mathlib.Core.Bool.{Bool, true, false, cond, not}
 use mathlib.Core.List.{List, [], _∷_, _++_}
 use lib.Dec.{eqb}
 use lib.ListN.{length, drop, getD}
-use Rattle.isolate_unassigned.specs.declared.Answer.{Answer}
-use Rattle.isolate_unassigned.specs.declared.Answer.the-variants.{Written, Refused}
 use Rattle.text_input.specs.declared.State.{State}
 use Rattle.text_input.specs.declared.State.the-variants.{Ground, Cr, Ff, Esc, CsiStart, Csi, Osc, Linux}
 use Rattle.text_input.specs.declared.Options.{Options}
 use Rattle.text_input.specs.declared.TextInput.{TextInput}
-use Rattle.text_input.specs.declared.Scanned.{Scanned}
+use Rattle.text_input.specs.Scan.{Outcome, refusedBy, writtenBy}
 use Rattle.text_output.specs.declared.Mode.{Mode}
 use Rattle.text_output.specs.declared.Mode.the-variants.{Plain, Crlf, Color}
 use Rattle.text_output.specs.declared.Ground.the-variants.{Newline, ZwjOrPrepend, Other}
@@ -106,18 +104,9 @@ recordNumbers r =
       count = r .count;
     }
 
--- the number of a refusal, and 0 where the call was accepted
-abbrev pub refusedBy : Answer → ℕ
-refusedBy (Written n) = 0
-refusedBy (Refused k) = k
-
--- how many numbers were written, and 0 where the call was refused
-abbrev pub writtenBy : Answer → ℕ
-writtenBy (Written n) = n
-writtenBy (Refused k) = 0
-
-abbrev pub replyOf : Scanned → Reply
-replyOf s = record { refused = refusedBy (s .answer); written = writtenBy (s .answer); «record» = recordNumbers (s .next) }
+-- a call's answer: the number of a refusal, and 0 where it was accepted; how many characters were written; the record after it
+abbrev pub replyOf : Outcome → Reply
+replyOf s = record { refused = refusedBy (s .numbers); written = writtenBy (s .numbers); «record» = recordNumbers (s .next) }
 
 -- ---- the writer
 -- the modes by number; a number past the last is read as 0

@@ -32,7 +32,7 @@ use writing::write;
 ghost use mathlib.Core.Path.{_≡_};
 ghost use Prim.Native.Nat.{_≤_};
 ghost use lib.ListN.{length, take};
-ghost use Rattle.text_input.specs.Scan.{scanOf, finishOf};
+ghost use Rattle.text_input.specs.Scan.{outcome, scanOf, finishOf};
 ghost use Rattle.text_output.specs.Write.{writeOf};
 ghost use Rattle.basic_text.specs.Exports.{numbers, pageOf, withNumbers, flag, recordOf, optionsOf, replyOf, writerOf, writeReplyOf};
 ghost use Rattle.basic_text.specs.Inner.{longest, fitting};
@@ -107,7 +107,10 @@ fn read_page(page: &[u8], all: &mut [u32]) -> usize
 
 // The scan by a page of numbers. Total.
 fn scan(r: TextInput, page: &[u32], options: Options, chunk: &[u8], queue: &mut [u8]) -> Scanned
-    ensures { λ s. ⌜ s ≡ scanOf r (now (page .entry)) options (numbers (now (chunk .entry))) (numbers (now (queue .entry))) .given ⌝ }
+    ensures { λ s. ⌜
+        outcome s (scanOf r (now (page .entry)) options (numbers (now (chunk .entry))) (numbers (now (queue .entry))) .places)
+        ≡ scanOf r (now (page .entry)) options (numbers (now (chunk .entry))) (numbers (now (queue .entry)))
+        ⌝ }
     ensures { λ s. ⌜
         now (queue .exit)
         ≡ withNumbers (scanOf r (now (page .entry)) options (numbers (now (chunk .entry))) (numbers (now (queue .entry))) .places) (now (queue .entry))
@@ -149,7 +152,7 @@ pub extern "C" fn basic_text_scan(
 ) -> Reply
     ensures reply { λ r. ⌜
         r
-        ≡ replyOf (scanOf (recordOf «record») (pageOf (now (page .entry))) (optionsOf options) (numbers (now (chunk .entry))) (numbers (now (queue .entry))) .given)
+        ≡ replyOf (scanOf (recordOf «record») (pageOf (now (page .entry))) (optionsOf options) (numbers (now (chunk .entry))) (numbers (now (queue .entry))))
         ⌝ }
     ensures places { λ r. ⌜
         now (queue .exit)
@@ -168,7 +171,7 @@ pub extern "C" fn basic_text_scan(
 
 // The finish. Total: what it appends is stored as numbers first, since that is at most two.
 fn finish(r: TextInput, eof: bool, queue: &mut [u8]) -> Scanned
-    ensures { λ s. ⌜ s ≡ finishOf r eof (numbers (now (queue .entry))) .given ⌝ }
+    ensures { λ s. ⌜ outcome s (finishOf r eof (numbers (now (queue .entry))) .places) ≡ finishOf r eof (numbers (now (queue .entry))) ⌝ }
     ensures { λ s. ⌜ now (queue .exit) ≡ withNumbers (finishOf r eof (numbers (now (queue .entry))) .places) (now (queue .entry)) ⌝ }
 {
     if queue.len() / 4 < 2 {
@@ -192,7 +195,7 @@ fn finish(r: TextInput, eof: bool, queue: &mut [u8]) -> Scanned
 // The stream is pushed, or it ends. The queue is lent as bytes; what is pending goes to its first places, with what ends a text.
 #[no_mangle]
 pub extern "C" fn basic_text_finish(record: Record, eof: u32, queue: &mut [u8]) -> Reply
-    ensures reply { λ r. ⌜ r ≡ replyOf (finishOf (recordOf «record») (flag eof) (numbers (now (queue .entry))) .given) ⌝ }
+    ensures reply { λ r. ⌜ r ≡ replyOf (finishOf (recordOf «record») (flag eof) (numbers (now (queue .entry)))) ⌝ }
     ensures places { λ r. ⌜
         now (queue .exit) ≡ withNumbers (finishOf (recordOf «record») (flag eof) (numbers (now (queue .entry))) .places) (now (queue .entry))
         ⌝ }

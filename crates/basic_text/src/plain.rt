@@ -7,6 +7,8 @@ use text_input::Scanned;
 use text_input::State;
 use text_input::TextInput;
 ghost use mathlib.Core.Path.{_≡_};
+ghost use mathlib.Core.List.{[]};
+ghost use Rattle.text_input.specs.Scan.{outcome};
 ghost use Rattle.basic_text.specs.Exports.{flag, stateOf, recordOf, optionsOf, flagNumber, stateNumber, recordNumbers, replyOf};
 
 // 0 is false, and any other number true.
@@ -98,7 +100,7 @@ fn record_numbers(r: TextInput) -> Record
 }
 
 pub fn reply_of(s: Scanned) -> Reply
-    ensures { λ r. ⌜ r ≡ replyOf s ⌝ }
+    ensures { λ r. ⌜ r ≡ replyOf (outcome s []) ⌝ }
 {
     let next = s.next;
     let record = record_numbers(next);

@@ -15,14 +15,13 @@ use lib.Seq.{take-append-seam}
 use borrow.Author.Tests.{eqb-true}
 use Rattle.unicode.specs.Chars.{areChars, filled}
 use Rattle.page.specs.Page.{accepted}
-use Rattle.isolate_unassigned.specs.declared.Answer.the-variants.{Written}
 use Rattle.text_input.specs.declared.Options.{Options}
 use Rattle.text_input.specs.declared.TextInput.{TextInput}
-use Rattle.text_input.specs.Scan.{Outcome, refused, written, refusalOf, scanChars, scanNext, scanOf, finishChars, finishNext, finishOf, opened, skipped}
+use Rattle.text_input.specs.Scan.{Outcome, refused, written, wroteBy, refusalOf, scanChars, scanNext, scanOf, finishChars, finishNext, finishOf, opened, skipped}
 use Rattle.text_input.specs.Streams.{scansChars, scansNext}
 use Rattle.text_input.proofs.Meaning.{ends-count}
 use Rattle.demand.proofs.Holds.{chars-append}
-use Rattle.demand.specs.Calls.{Call, scan, finish, callOf, Seen, wroteBy, queueOf, recordAfter, refusalBy, countWith, acceptedFrom, chunksOf, FinishedOnce}
+use Rattle.demand.specs.Calls.{Call, scan, finish, callOf, Seen, queueOf, recordAfter, refusalBy, countWith, acceptedFrom, chunksOf, FinishedOnce}
 
 -- ---- one call, by whether it is accepted
 -- what an accepted call gives: the record after, and what it appends
@@ -51,7 +50,7 @@ call-is : (r : TextInput) (c : Call) → callOf r c ≡ outcomeBy (eqb (refusalB
 call-is r (scan p o chunk places) = unfold scanOf in refl
 call-is r (finish eof places) = unfold finishOf in finish-is (ltb (length places) 2) r eof places
 
-wrote-is : (out places : List ℕ) → wroteBy (Written (length out)) (filled out places) ≡ out
+wrote-is : (out places : List ℕ) → wroteBy (0 ∷ length out ∷ []) (filled out places) ≡ out
 wrote-is out places = take-append-seam out (drop (length out) places)
 
 -- the count after an accepted call
@@ -69,8 +68,8 @@ cons-nil x l h = let z : _≡_ {A = ℕ} 0 1 = cc in let e : ⊥ = omega arith i
 -- ---- the count
 count-by : (b : Bool) (c : Call) (cs : List Call) (r : TextInput) (seen : List Outcome) →
     ((n : TextInput) → Seen n cs seen → recordAfter n seen .count ≡ n .count + length (flatten (chunksOf (acceptedFrom (n .count) cs)))) →
-    Seen (outcomeBy b r c .given .next) cs seen →
-    recordAfter (outcomeBy b r c .given .next) seen .count ≡ r .count + length (flatten (chunksOf (leftBy b (r .count) c cs)))
+    Seen (outcomeBy b r c .next) cs seen →
+    recordAfter (outcomeBy b r c .next) seen .count ≡ r .count + length (flatten (chunksOf (leftBy b (r .count) c cs)))
 unfolding flatten
 count-by true (scan p o chunk places) cs r seen ih h =
     let more = flatten (chunksOf (acceptedFrom (r .count + length chunk) cs)) in
@@ -114,8 +113,8 @@ chars-listed (c ∷ cs) n = chars-by (eqb (refusalBy n c) 0) n c cs refl (λ m. 
 
 -- ---- where no call is accepted, nothing is written
 none-by : (b : Bool) (c : Call) (cs : List Call) (r : TextInput) (seen : List Outcome) → leftBy b (r .count) c cs ≡ [] →
-    (acceptedFrom (r .count) cs ≡ [] → Seen r cs seen → queueOf seen ≡ []) → Seen (outcomeBy b r c .given .next) cs seen →
-    wroteBy (outcomeBy b r c .given .answer) (outcomeBy b r c .places) ++ queueOf seen ≡ []
+    (acceptedFrom (r .count) cs ≡ [] → Seen r cs seen → queueOf seen ≡ []) → Seen (outcomeBy b r c .next) cs seen →
+    wroteBy (outcomeBy b r c .numbers) (outcomeBy b r c .places) ++ queueOf seen ≡ []
 none-by true c cs r seen h ih g = cons-nil c (acceptedFrom (countWith (r .count) c) cs) h
 none-by false c cs r seen h ih g = ih h g
 
@@ -151,8 +150,8 @@ module _ (page : List ℕ) (options : Options) where
       rw e (sym (append-assoc (scanChars page options r chunk) (scansChars page options next ts) (finishChars (scansNext page options next ts) true)))
 
   queue-by : (b : Bool) (c : Call) (cs : List Call) (seen : List Outcome) (r : TextInput) → Queued cs seen →
-      Seen (outcomeBy b r c .given .next) cs seen → FinishedOnce page options (leftBy b (r .count) c cs) →
-      wroteBy (outcomeBy b r c .given .answer) (outcomeBy b r c .places) ++ queueOf seen ≡ wholeFrom r (chunksOf (leftBy b (r .count) c cs))
+      Seen (outcomeBy b r c .next) cs seen → FinishedOnce page options (leftBy b (r .count) c cs) →
+      wroteBy (outcomeBy b r c .numbers) (outcomeBy b r c .places) ++ queueOf seen ≡ wholeFrom r (chunksOf (leftBy b (r .count) c cs))
   queue-by true (scan p o chunk places) cs seen r ih g h =
       let e : p ≡ page = h .0 in
       let d : o ≡ options = h .1 in

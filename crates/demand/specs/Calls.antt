@@ -5,14 +5,12 @@ use mathlib.Core.Bool.{Bool, true, cond}
 use mathlib.Core.List.{List, [], _∷_, _++_, flatten}
 use mathlib.Core.Path.{_≡_}
 use lib.Dec.{eqb, ltb}
-use lib.ListN.{length, take}
+use lib.ListN.{length}
 use Rattle.unicode.specs.Chars.{areChars}
 use Rattle.page.specs.Page.{accepted}
-use Rattle.isolate_unassigned.specs.declared.Answer.{Answer}
-use Rattle.isolate_unassigned.specs.declared.Answer.the-variants.{Written, Refused}
 use Rattle.text_input.specs.declared.Options.{Options}
 use Rattle.text_input.specs.declared.TextInput.{TextInput}
-use Rattle.text_input.specs.Scan.{Outcome, refusalOf, scanOf, finishOf}
+use Rattle.text_input.specs.Scan.{Outcome, wroteBy, refusalOf, scanOf, finishOf}
 use Rattle.text_input.specs.Streams.{unmarkedFirst}
 
 -- ---- the calls
@@ -33,22 +31,17 @@ abbrev pub Seen : TextInput → List Call → List Outcome → Type 0
 Seen r [] [] = Unit {0}
 Seen r [] (s ∷ seen) = ⊥
 Seen r (c ∷ calls) [] = ⊥
-Seen r (c ∷ calls) (s ∷ seen) = (s ≡ callOf r c) × Seen (s .given .next) calls seen
+Seen r (c ∷ calls) (s ∷ seen) = (s ≡ callOf r c) × Seen (s .next) calls seen
 
--- what a call had written when it returned, by its answer
-abbrev pub wroteBy : Answer → List ℕ → List ℕ
-wroteBy (Written n) places = take n places
-wroteBy (Refused n) places = []
-
--- "The queue joins what each accepted call had written when it returned."
+-- "The queue joins what each accepted call had written when it returned.": a refused one wrote nothing
 unfoldable pub queueOf : List Outcome → List ℕ
 queueOf [] = []
-queueOf (s ∷ seen) = wroteBy (s .given .answer) (s .places) ++ queueOf seen
+queueOf (s ∷ seen) = wroteBy (s .numbers) (s .places) ++ queueOf seen
 
 -- the record that the last call returned
 unfoldable pub recordAfter : TextInput → List Outcome → TextInput
 recordAfter r [] = r
-recordAfter r (s ∷ seen) = recordAfter (s .given .next) seen
+recordAfter r (s ∷ seen) = recordAfter (s .next) seen
 
 -- ---- which calls are accepted
 -- "The refusal conditions alone decide which calls are accepted, with the number of characters in the chunks accepted so far as the

@@ -14,8 +14,7 @@ use Rattle.unicode.specs.Chars.{isChar, areChars}
 use Rattle.unicode.specs.Utf8.{encodeOf, encodeAll, charsOf}
 use Rattle.unicode.proofs.Kit.{split, both-true, both}
 use Rattle.unicode.proofs.Texts.{decode-encode}
-use Rattle.text_input.specs.declared.bytes.Filled.the-variants.{Counts, Refused}
-use Rattle.text_input.specs.Fill.{taken, FillOutcome, fillOutcome, filledBytes, fillOf}
+use Rattle.text_input.specs.Fill.{taken, FillOutcome, fillRefused, filledBytes, fillOf}
 
 pub taken-first : (free : ℕ) (queue : List ℕ) → taken free queue ≡ take (length (taken free queue)) queue
 taken-first free [] = refl
@@ -32,15 +31,16 @@ taken-chars free (c ∷ cs) h =
 
 -- of an answer and the bytes after: those filled decode to the characters taken
 abbrev Decodes : List ℕ → FillOutcome → Type 0
-Decodes queue o = (t n : ℕ) → o .given ≡ Counts t n → charsOf (take n (o .bytes)) ≡ take t queue
+Decodes queue o = (t n : ℕ) → o .numbers ≡ 0 ∷ t ∷ n ∷ [] → charsOf (take n (o .bytes)) ≡ take t queue
 
 -- a refusal answers no counts
-refused-decodes : (queue buf : List ℕ) (r : ℕ) → Decodes queue (fillOutcome (Refused r) buf)
+refused-decodes : (queue buf : List ℕ) (r : ℕ) → Decodes queue (fillRefused r buf)
 refused-decodes queue buf r t n h = let z : _≡_ {A = ℕ} 0 1 = cc in let e : ⊥ = omega arith in absurd e
 
 -- the bytes filled, and any others behind them
 accepted-decodes : (queue buf rest : List ℕ) → areChars queue ≡ true →
-    Decodes queue (fillOutcome (Counts (length (taken (length buf) queue)) (length (filledBytes queue buf))) (filledBytes queue buf ++ rest))
+    Decodes queue
+    (record { numbers = 0 ∷ length (taken (length buf) queue) ∷ length (filledBytes queue buf) ∷ []; bytes = filledBytes queue buf ++ rest })
 accepted-decodes queue buf rest s t n h =
     let xs = taken (length buf) queue in
     let a : t ≡ length xs = cc in
@@ -48,7 +48,7 @@ accepted-decodes queue buf rest s t n h =
     rw (a, b, take-append-seam (encodeAll xs) rest, decode-encode xs (taken-chars (length buf) queue s)) (taken-first (length buf) queue)
 
 -- for every queue and buffer
-pub filled-decodes : (queue buf : List ℕ) (t n : ℕ) → fillOf queue buf .given ≡ Counts t n →
+pub filled-decodes : (queue buf : List ℕ) (t n : ℕ) → fillOf queue buf .numbers ≡ 0 ∷ t ∷ n ∷ [] →
     charsOf (take n (fillOf queue buf .bytes)) ≡ take t queue
 unfolding fillOf
 filled-decodes queue buf =

@@ -4,11 +4,11 @@
 use Prim.Native.Nat.{ℕ}
 use mathlib.Core.Bool.{true, false}
 use mathlib.Core.List.{List, [], _∷_}
-use lib.ListN.{take, replicate}
-use Rattle.isolate_unassigned.specs.Isolate.{writtenNumbers, isolateAnswer, isolatePlaces}
+use lib.ListN.{replicate}
+use Rattle.isolate_unassigned.specs.Isolate.{isolateAnswer, isolatePlaces}
 use Rattle.text_input.specs.declared.Options.{Options}
 use Rattle.text_input.specs.declared.TextInput.{TextInput}
-use Rattle.text_input.specs.Scan.{Outcome, fresh, scanOf, finishOf}
+use Rattle.text_input.specs.Scan.{Outcome, refusedBy, wroteBy, fresh, scanOf, finishOf}
 
 -- what is run: scans of these chunks and a finish as end of file, from a fresh record; or the isolation of a run
 pub data Trial : Type 0 where
@@ -33,14 +33,12 @@ abbrev pub lent : ℕ → List ℕ
 lent room = replicate room 0xEEEEEEEE
 
 -- ---- what a row's calls give
--- an answer's numbers with the characters written in place of their count
+-- by an answer's numbers and the places after
 abbrev pub told : List ℕ → List ℕ → List ℕ
-told [] places = []
-told (n ∷ []) places = n ∷ []
-told (n ∷ k ∷ ns) places = n ∷ take k places
+told ns places = refusedBy ns ∷ wroteBy ns places
 
 abbrev pub callTold : Outcome → List ℕ
-callTold s = told (writtenNumbers (s .given .answer)) (s .places)
+callTold s = told (s .numbers) (s .places)
 
 -- each call on the record that the one before returned, refused or not
 abbrev pub streamTold : TextInput → List (List ℕ) → List ℕ → List (List ℕ)
@@ -48,11 +46,12 @@ streamTold r chunks [] = []
 streamTold r [] (room ∷ rooms) = callTold (finishOf r true (lent room)) ∷ []
 streamTold r (chunk ∷ chunks) (room ∷ rooms) =
     callTold (scanOf r page options chunk (lent room))
-    ∷ streamTold (scanOf r page options chunk (lent room) .given .next) chunks rooms
+    ∷ streamTold (scanOf r page options chunk (lent room) .next) chunks rooms
 
 abbrev pub isolationTold : List ℕ → List ℕ → List (List ℕ)
 isolationTold run [] = []
-isolationTold run (room ∷ rooms) = told (isolateAnswer page run (lent room)) (isolatePlaces page run (lent room)) ∷ []
+isolationTold run (room ∷ rooms) =
+    told (isolateAnswer page run (lent room)) (isolatePlaces page run (lent room)) ∷ []
 
 abbrev pub trialTold : Trial → List ℕ → List (List ℕ)
 trialTold (stream chunks) rooms = streamTold fresh chunks rooms

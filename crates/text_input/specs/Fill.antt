@@ -20,13 +20,23 @@ abbrev pub zeroed : List ℕ → List ℕ
 zeroed [] = []
 zeroed (b ∷ bs) = cond (continuation b) (0 ∷ zeroed bs) (b ∷ bs)
 
--- the answer, and the bytes as the call returns
+-- an answer by document 01's numbers: 0, the characters taken and the bytes filled; or the refusal's number
+abbrev pub filledNumbers : Filled → List ℕ
+filledNumbers (Counts chars bytes) = 0 ∷ chars ∷ bytes ∷ []
+filledNumbers (Refused n) = n ∷ []
+
+-- the answer's numbers, and the bytes as the call returns
 pub record FillOutcome : Type 0 where
-  pub given : Filled
+  pub numbers : List ℕ
   pub bytes : List ℕ
 
+-- what a call returned and left
 abbrev pub fillOutcome : Filled → List ℕ → FillOutcome
-fillOutcome given bytes = record { given = given; bytes = bytes }
+fillOutcome r bytes = record { numbers = filledNumbers r; bytes = bytes }
+
+-- refused by a number: the bytes as they were
+abbrev pub fillRefused : ℕ → List ℕ → FillOutcome
+fillRefused n buf = record { numbers = n ∷ []; bytes = buf }
 
 -- the bytes filled
 abbrev pub filledBytes : List ℕ → List ℕ → List ℕ
@@ -35,8 +45,10 @@ filledBytes qs buf = encodeAll (taken (length buf) qs)
 -- the queue qs into the buffer buf: "7 a byte buffer under 136", then 1
 unfoldable pub fillOf : List ℕ → List ℕ → FillOutcome
 fillOf qs buf =
-    cond (ltb (length buf) 136) (fillOutcome (Refused 7) buf)
+    cond (ltb (length buf) 136) (fillRefused 7 buf)
     (cond (areChars qs)
-    (fillOutcome (Counts (length (taken (length buf) qs)) (length (filledBytes qs buf)))
-    (filledBytes qs buf ++ zeroed (drop (length (filledBytes qs buf)) buf)))
-    (fillOutcome (Refused 1) buf))
+    (record {
+      numbers = 0 ∷ length (taken (length buf) qs) ∷ length (filledBytes qs buf) ∷ [];
+      bytes = filledBytes qs buf ++ zeroed (drop (length (filledBytes qs buf)) buf);
+    })
+    (fillRefused 1 buf))

@@ -4,11 +4,11 @@ use Prim.Native.Nat.{ℕ, zero, suc, _+_, _*_}
 use mathlib.Core.Bool.{Bool, true, false, cond, not, _&&_, _||_}
 use mathlib.Core.List.{List, [], _∷_, _++_}
 use lib.Dec.{eqb, ltb}
-use lib.ListN.{length, drop}
+use lib.ListN.{length, take, drop, getD}
 use Rattle.unicode.specs.Chars.{areChars, filled}
 use Rattle.page.specs.Page.{accepted}
 use Rattle.text_utils.specs.Classes.{basicTextEnd}
-use Rattle.isolate_unassigned.specs.declared.Answer.the-variants.{Written, Refused}
+use Rattle.isolate_unassigned.specs.Isolate.{writtenNumbers}
 use Rattle.text_input.specs.declared.State.{State}
 use Rattle.text_input.specs.declared.State.the-variants.{Ground, Cr, Ff, Esc, CsiStart, Csi, Osc, Linux}
 use Rattle.text_input.specs.declared.Options.{Options}
@@ -33,21 +33,37 @@ abbrev pub ends : List ℕ → Options → TextInput → List ℕ → TextInput
 ends p o r [] = r
 ends p o r (c ∷ cs) = ends p o (stepOf p o r c .next) cs
 
--- ---- a call's answer and record, and the lent places as it returns
+-- ---- a call's answer by document 01's numbers, the record after it, and the lent places as it returns
+-- The answer of a scan or a finish is the enum of `isolate_unassigned`, which `writtenNumbers` lists: 0 and how many characters were
+-- written, or the refusal's number.
 pub record Outcome : Type 0 where
-  pub given : Scanned
+  pub numbers : List ℕ
+  pub next : TextInput
   pub places : List ℕ
 
+-- what a call returned and left
 abbrev pub outcome : Scanned → List ℕ → Outcome
-outcome given places = record { given = given; places = places }
+outcome r places = record { numbers = writtenNumbers (r .answer); next = r .next; places = places }
 
 -- refused by a number: record and places as they were
 abbrev pub refused : TextInput → ℕ → List ℕ → Outcome
-refused r n queue = outcome (record { answer = Refused n; next = r }) queue
+refused r n queue = record { numbers = n ∷ []; next = r; places = queue }
 
 -- accepted: `out` is written from the first place on, and its length is answered
 abbrev pub written : TextInput → List ℕ → List ℕ → Outcome
-written next out queue = outcome (record { answer = Written (length out); next = next }) (filled out queue)
+written next out queue = record { numbers = 0 ∷ length out ∷ []; next = next; places = filled out queue }
+
+-- by an answer's numbers: the number of the refusal, and 0 for none
+abbrev pub refusedBy : List ℕ → ℕ
+refusedBy ns = getD ns 0 0
+
+-- how many characters were written, and 0 where the call was refused
+abbrev pub writtenBy : List ℕ → ℕ
+writtenBy ns = getD ns 1 0
+
+-- what was written: so many of the first places
+abbrev pub wroteBy : List ℕ → List ℕ → List ℕ
+wroteBy ns places = take (writtenBy ns) places
 
 -- ---- a scan
 -- "A chunk of n characters needs 3 × n + 1 free places, an empty one none."

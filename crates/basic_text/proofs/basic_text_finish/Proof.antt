@@ -15,7 +15,7 @@ returns c =
     let w : finishOf (r .record-of .result) (e .flag-of .result) (numbers (a .queue .now))
     ≡ finishOf (recordOf (a .«record»)) (flag (a .eof)) (numbers (a .queue .now)) =
     rw (r .record-of .ensures, e .flag-of .ensures) in (
-      c .reply-of .ensures ∙ ap replyOf (f .finish .ensures .0 ∙ ap (λ (x : Outcome). x .given) w),
+      c .reply-of .ensures ∙ ap replyOf (f .finish .ensures .0 ∙ w),
       f .finish .ensures .1 ∙ ap (λ (x : Outcome). withNumbers (x .places) (a .queue .now)) w,
     )
 

@@ -19,7 +19,7 @@ returns c =
     (r .record-of .ensures)
     (o .options-of .ensures)
     (n .read-page .ensures .1) in (
-      c .reply-of .ensures ∙ ap replyOf (s .scan .ensures .0 ∙ ap (λ (x : Outcome). x .given) w),
+      c .reply-of .ensures ∙ ap replyOf (s .scan .ensures .0 ∙ w),
       s .scan .ensures .1 ∙ ap (λ (x : Outcome). withNumbers (x .places) (a .queue .now)) w,
     )
 
