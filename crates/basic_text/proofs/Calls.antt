@@ -23,7 +23,7 @@ use Rattle.text_input.specs.Scan.{Outcome, outs, ends, refusalOf, scanRefusal, 
 use Rattle.unicode.proofs.Lists.{sets-filled}
 use Rattle.text_input.proofs.Room.{finish-room}
 use Rattle.text_input.proofs.Calls as calls
-use Rattle.basic_text.specs.Exports.{numbers, bytesOf, withNumbers}
+use Rattle.basic_text.specs.Exports.{numbersOf, bytesOf, withNumbers}
 use Rattle.basic_text.proofs.Laws.{Bytes, length-numbers, length-bytes, with-all, with-filled}
 use Rattle.basic_text.proofs.Stores.{stored-first}
 
@@ -36,14 +36,14 @@ with-places : (s : Scanned) (places : List ℕ) (whole : Outcome) → outcome s 
 with-places s places whole w = ap (λ (x : Outcome). outcome s (x .places)) (sym w) ∙ w
 
 -- an outcome that leaves the numbers leaves the bytes
-left-as-it-was : (queue : List ℕ) (s : Scanned) (whole : Outcome) → Bytes queue → outcome s (numbers queue) ≡ whole →
+left-as-it-was : (queue : List ℕ) (s : Scanned) (whole : Outcome) → Bytes queue → outcome s (numbersOf queue) ≡ whole →
     Answers queue whole s queue
 left-as-it-was queue s whole k w =
     (with-places s _ whole w, sym (with-all queue k) ∙ ap (λ (x : Outcome). withNumbers (x .places) queue) w)
 
 -- an outcome that stores numbers in the first places stores their bytes there
 first-filled : (queue out q : List ℕ) (s : Scanned) (whole : Outcome) → Bytes queue → 4 * length out ≤ length queue →
-    q ≡ filled (bytesOf out) queue → outcome s (filled out (numbers queue)) ≡ whole → Answers queue whole s q
+    q ≡ filled (bytesOf out) queue → outcome s (filled out (numbersOf queue)) ≡ whole → Answers queue whole s q
 first-filled queue out q s whole k room e w = (
   with-places s _ whole w,
   e ∙ sym (with-filled out queue k (omega (arith, length-numbers queue))) ∙ ap (λ (x : Outcome). withNumbers (x .places) queue) w,
@@ -55,57 +55,57 @@ rest l s = take-all (length l - s) (drop s l) (omega (arith, length-drop s l))
 
 -- the refusal's number n, 0 where there is none
 module _ (r : TextInput) (p : List ℕ) (o : Options) (chunk queue : List ℕ) (n : ℕ)
-    (e : n ≡ refusalOf (r .count) (accepted p) (areChars (numbers chunk)) (length chunk / 4) (length queue / 4)) where
+    (e : n ≡ refusalOf (r .count) (accepted p) (areChars (numbersOf chunk)) (length chunk / 4) (length queue / 4)) where
   abbrev whole : Outcome
-  whole = scanOf r p o (numbers chunk) (numbers queue)
+  whole = scanOf r p o (numbersOf chunk) (numbersOf queue)
 
-  asked : n ≡ scanRefusal r p (numbers chunk) (length (numbers queue))
+  asked : n ≡ scanRefusal r p (numbersOf chunk) (length (numbersOf queue))
   asked = rw (length-numbers chunk, length-numbers queue) e
 
   pub scan-refused : Bytes queue → (n ≡ 0 → ⊥) → Answers queue whole (record { answer = Refused n; next = r }) queue
   scan-refused k h =
       left-as-it-was queue (record { answer = Refused n; next = r }) whole k
-      (calls.refused-is r p o (numbers chunk) (numbers queue) n asked h)
+      (calls.refused-is r p o (numbersOf chunk) (numbersOf queue) n asked h)
 
   module _ (z : n ≡ 0) where
     pub right-page : accepted p ≡ true
-    right-page = calls.right-page r p o (numbers chunk) (numbers queue) n asked z
+    right-page = calls.right-page r p o (numbersOf chunk) (numbersOf queue) n asked z
 
     pub few : r .count + length chunk / 4 ≤ 4294967295
-    few = rw length-numbers at (calls.counts r p o (numbers chunk) (numbers queue) n asked z)
+    few = rw length-numbers at (calls.counts r p o (numbersOf chunk) (numbersOf queue) n asked z)
 
-    module _ (from : ℕ) (f : from ≡ skipped r (numbers chunk)) where
-      pub inside : from ≤ length (numbers chunk)
-      inside = calls.from-le r p o (numbers chunk) (numbers queue) n asked z from f
+    module _ (from : ℕ) (f : from ≡ skipped r (numbersOf chunk)) where
+      pub inside : from ≤ length (numbersOf chunk)
+      inside = calls.from-le r p o (numbersOf chunk) (numbersOf queue) n asked z from f
 
       module _ (first : TextInput) (g : first ≡ opened r (length chunk / 4)) where
-        same : first ≡ opened r (length (numbers chunk))
+        same : first ≡ opened r (length (numbersOf chunk))
         same = rw length-numbers g
 
-        pub room : 4 * length (outs p o first (drop from (numbers chunk))) ≤ length queue
+        pub room : 4 * length (outs p o first (drop from (numbersOf chunk))) ≤ length queue
         room =
-            let w = calls.enough r p o (numbers chunk) (numbers queue) n asked z from f first same in
+            let w = calls.enough r p o (numbersOf chunk) (numbersOf queue) n asked z from f first same in
             omega (arith, rw rest at w, length-numbers queue)
 
         pub scan-accepted : Bytes queue → (k : ℕ) (next : TextInput) (q : List ℕ) →
-            (k ≡ length (outs p o first (drop from (numbers chunk))))
-            × ((next ≡ ends p o first (drop from (numbers chunk)))
-            × (q ≡ filled (bytesOf (outs p o first (drop from (numbers chunk)))) queue))
+            (k ≡ length (outs p o first (drop from (numbersOf chunk))))
+            × ((next ≡ ends p o first (drop from (numbersOf chunk)))
+            × (q ≡ filled (bytesOf (outs p o first (drop from (numbersOf chunk)))) queue))
             → Answers queue whole (record { answer = Written k; next = next }) q
         scan-accepted b k next q h =
-            let out = outs p o first (drop from (numbers chunk)) in
+            let out = outs p o first (drop from (numbersOf chunk)) in
             let w =
-            calls.accepted-is r p o (numbers chunk) (numbers queue) n asked z from f first same k next (filled out (numbers queue))
+            calls.accepted-is r p o (numbersOf chunk) (numbersOf queue) n asked z from f first same k next (filled out (numbersOf queue))
             (rw rest (h .0, (h .1 .0, refl))) in
             first-filled queue out q (record { answer = Written k; next = next }) whole b room (h .1 .1) w
 
 -- ---- a finish
 module _ (r : TextInput) (eof : Bool) (queue : List ℕ) where
   pub finish-refused : Bytes queue → length queue / 4 < 2 →
-      Answers queue (finishOf r eof (numbers queue)) (record { answer = Refused 8; next = r }) queue
+      Answers queue (finishOf r eof (numbersOf queue)) (record { answer = Refused 8; next = r }) queue
   finish-refused k h =
       left-as-it-was queue (record { answer = Refused 8; next = r }) _ k
-      (calls.finish-refused r eof (numbers queue) (omega (arith, length-numbers queue)))
+      (calls.finish-refused r eof (numbersOf queue) (omega (arith, length-numbers queue)))
 
   -- a finish on two places answered s and left them so
   module _ (s : Scanned) (two : List ℕ) (e : outcome s two ≡ finishOf r eof (0 ∷ 0 ∷ [])) where
@@ -135,18 +135,18 @@ module _ (r : TextInput) (eof : Bool) (queue : List ℕ) where
         pub fits : 4 * (0 + n) ≤ length queue
         fits = omega (arith, count, finish-room r eof)
 
-        whole-finish : outcome s (filled (finishChars r eof) (numbers queue)) ≡ finishOf r eof (numbers queue)
+        whole-finish : outcome s (filled (finishChars r eof) (numbersOf queue)) ≡ finishOf r eof (numbersOf queue)
         unfolding finishOf
         whole-finish =
-            let two-places : 2 ≤ length (numbers queue) = omega (arith, length-numbers queue) in
-            rw (le-ltb (length (numbers queue)) 2 two-places, listed, next-is)
+            let two-places : 2 ≤ length (numbersOf queue) = omega (arith, length-numbers queue) in
+            rw (le-ltb (length (numbersOf queue)) 2 two-places, listed, next-is)
 
         pub finished : Bytes queue → (q : List ℕ) → q ≡ sets queue (4 * 0) (bytesOf (take n two)) →
-            Answers queue (finishOf r eof (numbers queue)) s q
+            Answers queue (finishOf r eof (numbersOf queue)) s q
         finished k q f =
             let out = finishChars r eof in
             let enough : 4 * length out ≤ length queue = omega (arith, fits, count) in
-            first-filled queue out q s (finishOf r eof (numbers queue)) k enough
+            first-filled queue out q s (finishOf r eof (numbersOf queue)) k enough
             (f ∙ ap (λ (l : List ℕ). sets queue 0 (bytesOf l)) (held .1)
             ∙ sets-filled (bytesOf out) queue (omega (arith, length-bytes out)))
             whole-finish

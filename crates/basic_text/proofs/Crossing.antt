@@ -19,7 +19,7 @@ use Rattle.text_output.specs.declared.Ground.the-variants.{Newline, ZwjOrPrepen
 use Rattle.text_output.specs.declared.State.{State as WriterState}
 use Rattle.text_output.specs.declared.State.the-variants.{Ground as Grounded, Esc as InEsc, Csi as InCsi}
 use Rattle.text_output.specs.declared.TextOutput.{TextOutput}
-use Rattle.basic_text.specs.Exports.{number, numbers, bytesOf, flag, flagNumber, stateOf, stateNumber, recordOf, recordNumbers}
+use Rattle.basic_text.specs.Exports.{numberOf, numbersOf, bytesOf, flag, flagNumber, stateOf, stateNumber, recordOf, recordNumbers}
 use Rattle.basic_text.specs.Exports.{modeOf, modeNumber, writerStateOf, writerStateNumber, writerOf, writerNumbers}
 
 flag-back : (b : Bool) → flag (flagNumber b) ≡ b
@@ -78,7 +78,7 @@ pub wide-more : (n : ℕ) (ns : List ℕ) → Wide (n ∷ ns) → Wide ns
 wide-more n ns w i = w (suc i)
 
 -- n = n % 256 + 256 × x, x = x % 256 + 256 × y and y = y % 256 + 256 × z
-digits : (n x y z : ℕ) → x ≡ n / 256 → y ≡ x / 256 → z ≡ y / 256 → z < 256 → number (n % 256) (x % 256) (y % 256) (z % 256) ≡ n
+digits : (n x y z : ℕ) → x ≡ n / 256 → y ≡ x / 256 → z ≡ y / 256 → z < 256 → numberOf (n % 256) (x % 256) (y % 256) (z % 256) ≡ n
 digits n x y z hx hy hz h =
     let a : n ≡ n % 256 + 256 * x = omega arith in
     let b : x ≡ x % 256 + 256 * y = omega arith in
@@ -86,9 +86,9 @@ digits n x y z hx hy hz h =
     let d : z % 256 ≡ z = omega arith in
     omega (arith, a, b, c, d)
 
-pub number-back : (n : ℕ) → n < 4294967296 → number (n % 256) (n / 256 % 256) (n / 65536 % 256) (n / 16777216 % 256) ≡ n
+pub number-back : (n : ℕ) → n < 4294967296 → numberOf (n % 256) (n / 256 % 256) (n / 65536 % 256) (n / 16777216 % 256) ≡ n
 number-back n h = digits n (n / 256) (n / 65536) (n / 16777216) refl (omega arith) (omega arith) (omega arith)
 
-pub numbers-back : (ns : List ℕ) → Wide ns → numbers (bytesOf ns) ≡ ns
+pub numbers-back : (ns : List ℕ) → Wide ns → numbersOf (bytesOf ns) ≡ ns
 numbers-back [] h = refl
 numbers-back (n ∷ ns) h = rw (number-back n (h 0), numbers-back ns (wide-more n ns h))

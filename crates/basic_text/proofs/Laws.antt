@@ -13,7 +13,7 @@ use mathlib.Core.List.{List, [], _∷_, _++_}
 use native.Mathlib.Omega.{arith}
 use lib.ListN.{length, getD, drop}
 use Rattle.unicode.specs.Chars.{filled}
-use Rattle.basic_text.specs.Exports.{number, numbers, bytesOf, withNumbers}
+use Rattle.basic_text.specs.Exports.{numberOf, numbersOf, bytesOf, withNumbers}
 
 abbrev pub Bytes : List ℕ → Type 0
 Bytes bytes = (i : ℕ) → getD bytes i 0 < 256
@@ -21,7 +21,7 @@ Bytes bytes = (i : ℕ) → getD bytes i 0 < 256
 pub four-more : (n : ℕ) → 4 * suc n ≡ suc (suc (suc (suc (4 * n))))
 four-more n = omega arith
 
-pub length-numbers : (bytes : List ℕ) → length (numbers bytes) ≡ length bytes / 4
+pub length-numbers : (bytes : List ℕ) → length (numbersOf bytes) ≡ length bytes / 4
 length-numbers [] = refl
 length-numbers (a ∷ []) = refl
 length-numbers (a ∷ b ∷ []) = refl
@@ -30,7 +30,7 @@ length-numbers (a ∷ b ∷ c ∷ d ∷ rest) = omega (arith, length-numbers res
 
 -- the number made of the four bytes from a place on
 abbrev pub fourAt : List ℕ → ℕ → ℕ
-fourAt bytes at = number (getD bytes at 0) (getD bytes (at + 1) 0) (getD bytes (at + 2) 0) (getD bytes (at + 3) 0)
+fourAt bytes at = numberOf (getD bytes at 0) (getD bytes (at + 1) 0) (getD bytes (at + 2) 0) (getD bytes (at + 3) 0)
 
 fourAt-more : (a b c d : ℕ) (rest : List ℕ) (at : ℕ) → fourAt (a ∷ b ∷ c ∷ d ∷ rest) (suc (suc (suc (suc at)))) ≡ fourAt rest at
 fourAt-more a b c d rest at =
@@ -39,7 +39,7 @@ fourAt-more a b c d rest at =
     let e3 : suc (suc (suc (suc at))) + 3 ≡ suc (suc (suc (suc (at + 3)))) = omega arith in
     rw (e1, e2, e3)
 
-pub numbers-at : (bytes : List ℕ) (i : ℕ) → 4 * (i + 1) ≤ length bytes → getD (numbers bytes) i 0 ≡ fourAt bytes (4 * i)
+pub numbers-at : (bytes : List ℕ) (i : ℕ) → 4 * (i + 1) ≤ length bytes → getD (numbersOf bytes) i 0 ≡ fourAt bytes (4 * i)
 numbers-at [] i h = absurd (omega arith)
 numbers-at (a ∷ []) i h = absurd (omega arith)
 numbers-at (a ∷ b ∷ []) i h = absurd (omega arith)
@@ -63,35 +63,35 @@ past-four a b c d rest k i = k (suc (suc (suc (suc i))))
 
 -- four bytes give a number that gives the bytes back
 module _ (a b c d : ℕ) (rest more : List ℕ) (ha : a < 256) (hb : b < 256) (hc : c < 256) (hd : d < 256) where
-  back : bytesOf (number a b c d ∷ rest) ++ more ≡ a ∷ b ∷ c ∷ d ∷ bytesOf rest ++ more
+  back : bytesOf (numberOf a b c d ∷ rest) ++ more ≡ a ∷ b ∷ c ∷ d ∷ bytesOf rest ++ more
   back =
-      let ea : number a b c d % 256 ≡ a = omega arith in
-      let qb : number a b c d / 256 ≡ b + 256 * c + 65536 * d = omega arith in
-      let eb : number a b c d / 256 % 256 ≡ b = rw qb (omega arith) in
-      let qc : number a b c d / 65536 ≡ c + 256 * d = omega arith in
-      let ec : number a b c d / 65536 % 256 ≡ c = rw qc (omega arith) in
-      let qd : number a b c d / 16777216 ≡ d = omega arith in
-      let ed : number a b c d / 16777216 % 256 ≡ d = rw qd (omega arith) in
+      let ea : numberOf a b c d % 256 ≡ a = omega arith in
+      let qb : numberOf a b c d / 256 ≡ b + 256 * c + 65536 * d = omega arith in
+      let eb : numberOf a b c d / 256 % 256 ≡ b = rw qb (omega arith) in
+      let qc : numberOf a b c d / 65536 ≡ c + 256 * d = omega arith in
+      let ec : numberOf a b c d / 65536 % 256 ≡ c = rw qc (omega arith) in
+      let qd : numberOf a b c d / 16777216 ≡ d = omega arith in
+      let ed : numberOf a b c d / 16777216 % 256 ≡ d = rw qd (omega arith) in
       rw (ea, eb, ec, ed)
 
-pub with-all : (queue : List ℕ) → Bytes queue → withNumbers (numbers queue) queue ≡ queue
+pub with-all : (queue : List ℕ) → Bytes queue → withNumbers (numbersOf queue) queue ≡ queue
 with-all [] k = refl
 with-all (a ∷ []) k = refl
 with-all (a ∷ b ∷ []) k = refl
 with-all (a ∷ b ∷ c ∷ []) k = refl
 with-all (a ∷ b ∷ c ∷ d ∷ rest) k =
-    rw (four-more (length (numbers rest)))
-    (back a b c d (numbers rest) (drop (4 * length (numbers rest)) rest) (k 0) (k 1) (k 2) (k 3)
+    rw (four-more (length (numbersOf rest)))
+    (back a b c d (numbersOf rest) (drop (4 * length (numbersOf rest)) rest) (k 0) (k 1) (k 2) (k 3)
     ∙ ap (λ (l : List ℕ). a ∷ b ∷ c ∷ d ∷ l) (with-all rest (past-four a b c d rest k)))
 
-pub with-filled : (out queue : List ℕ) → Bytes queue → length out ≤ length (numbers queue) →
-    withNumbers (filled out (numbers queue)) queue ≡ filled (bytesOf out) queue
+pub with-filled : (out queue : List ℕ) → Bytes queue → length out ≤ length (numbersOf queue) →
+    withNumbers (filled out (numbersOf queue)) queue ≡ filled (bytesOf out) queue
 with-filled [] queue k h = with-all queue k
 with-filled (n ∷ out) [] k h = absurd (omega arith)
 with-filled (n ∷ out) (a ∷ []) k h = absurd (omega arith)
 with-filled (n ∷ out) (a ∷ b ∷ []) k h = absurd (omega arith)
 with-filled (n ∷ out) (a ∷ b ∷ c ∷ []) k h = absurd (omega arith)
 with-filled (n ∷ out) (a ∷ b ∷ c ∷ d ∷ rest) k h =
-    rw (four-more (length (filled out (numbers rest))))
+    rw (four-more (length (filled out (numbersOf rest))))
     (ap (λ (l : List ℕ). n % 256 ∷ n / 256 % 256 ∷ n / 65536 % 256 ∷ n / 16777216 % 256 ∷ l)
     (with-filled out rest (past-four a b c d rest k) (omega arith)))

@@ -29,30 +29,30 @@ use Rattle.text_output.specs.Writer.{heldIn, sound}
 use Rattle.text_output.specs.Step.{Stepped, stepsOf}
 use Rattle.text_write.specs.Inner.{Progress, writerAt, pushed, stored, progress, turnOf}
 use Rattle.text_write.proofs.Stays.{steps-stay, turn-sound}
-use Rattle.basic_text.specs.Exports.{number, numbers, bytesOf, withNumbers}
+use Rattle.basic_text.specs.Exports.{numberOf, numbersOf, bytesOf, withNumbers}
 use Rattle.basic_text.specs.Inner.{tail, atPlace, placeIn, behindOf}
 use Rattle.basic_text.proofs.Laws.{Bytes, four-more, length-numbers, length-bytes, with-all}
 use Rattle.basic_text.proofs.Stores.{sets-bytes, take-filled}
 use Rattle.basic_text.proofs.Crossing.{Wide, wide-more, number-back}
 
 -- ---- one number
-numbers-set : (q : List ℕ) (k n : ℕ) → n < 4294967296 → 4 * (k + 1) ≤ length q → numbers (sets q (4 * k) (bytesOf (n ∷ []))) ≡ set (numbers q) k n
+numbers-set : (q : List ℕ) (k n : ℕ) → n < 4294967296 → 4 * (k + 1) ≤ length q → numbersOf (sets q (4 * k) (bytesOf (n ∷ []))) ≡ set (numbersOf q) k n
 numbers-set [] k n w h = absurd (omega arith)
 numbers-set (a ∷ []) k n w h = absurd (omega arith)
 numbers-set (a ∷ b ∷ []) k n w h = absurd (omega arith)
 numbers-set (a ∷ b ∷ c ∷ []) k n w h = absurd (omega arith)
 numbers-set (a ∷ b ∷ c ∷ d ∷ rest) zero n w h = rw (number-back n w) refl
 numbers-set (a ∷ b ∷ c ∷ d ∷ rest) (suc k) n w h =
-    rw (four-more k) (ap (λ (l : List ℕ). number a b c d ∷ l) (numbers-set rest k n w (omega arith)))
+    rw (four-more k) (ap (λ (l : List ℕ). numberOf a b c d ∷ l) (numbers-set rest k n w (omega arith)))
 
 -- ---- some numbers
-pub numbers-sets : (ns q : List ℕ) (k : ℕ) → Wide ns → k + length ns ≤ length (numbers q) →
-    numbers (sets q (4 * k) (bytesOf ns)) ≡ sets (numbers q) k ns
+pub numbers-sets : (ns q : List ℕ) (k : ℕ) → Wide ns → k + length ns ≤ length (numbersOf q) →
+    numbersOf (sets q (4 * k) (bytesOf ns)) ≡ sets (numbersOf q) k ns
 numbers-sets [] q k w h = refl
 numbers-sets (n ∷ ns) q k w h =
     let one = numbers-set q k n (w 0) (omega (arith, length-numbers q)) in
     let q' = sets q (4 * k) (bytesOf (n ∷ [])) in
-    let e : length (numbers q') ≡ length (numbers q) =
+    let e : length (numbersOf q') ≡ length (numbersOf q) =
     omega (arith, length-numbers q', length-numbers q, length-sets q (4 * k) (bytesOf (n ∷ []))) in
     rw (sets-bytes (n ∷ []) ns q k) (numbers-sets ns q' (k + 1) (wide-more n ns w) (omega (arith, e)) ∙ rw (one, add-one) refl)
 
@@ -69,17 +69,17 @@ drop-sets : (n : ℕ) (l : List ℕ) (i : ℕ) (vs : List ℕ) → i + length vs
 drop-sets n l i [] h = refl
 drop-sets n l i (v ∷ vs) h = drop-sets n (set l i v) (suc i) vs (omega arith) ∙ drop-set-lt n l i v (omega arith)
 
-pub tail-sets : (ns q : List ℕ) (k : ℕ) → k + length ns ≤ length (numbers q) → tail (sets q (4 * k) (bytesOf ns)) ≡ tail q
+pub tail-sets : (ns q : List ℕ) (k : ℕ) → k + length ns ≤ length (numbersOf q) → tail (sets q (4 * k) (bytesOf ns)) ≡ tail q
 tail-sets ns q k h =
     let q' = sets q (4 * k) (bytesOf ns) in
-    let e : length (numbers q') ≡ length (numbers q) =
+    let e : length (numbersOf q') ≡ length (numbersOf q) =
     omega (arith, length-numbers q', length-numbers q, length-sets q (4 * k) (bytesOf ns)) in
-    rw e (drop-sets (4 * length (numbers q)) q (4 * k) (bytesOf ns) (omega (arith, length-bytes ns)))
+    rw e (drop-sets (4 * length (numbersOf q)) q (4 * k) (bytesOf ns) (omega (arith, length-bytes ns)))
 
-pub with-tail : (q q₀ : List ℕ) → Bytes q → length q ≡ length q₀ → tail q ≡ tail q₀ → q ≡ withNumbers (numbers q) q₀
+pub with-tail : (q q₀ : List ℕ) → Bytes q → length q ≡ length q₀ → tail q ≡ tail q₀ → q ≡ withNumbers (numbersOf q) q₀
 with-tail q q₀ b l t =
-    let e : length (numbers q) ≡ length (numbers q₀) = omega (arith, length-numbers q, length-numbers q₀) in
-    sym (with-all q b) ∙ ap (λ (r : List ℕ). bytesOf (numbers q) ++ r) (rw (← e) at t)
+    let e : length (numbersOf q) ≡ length (numbersOf q₀) = omega (arith, length-numbers q, length-numbers q₀) in
+    sym (with-all q b) ∙ ap (λ (r : List ℕ). bytesOf (numbersOf q) ++ r) (rw (← e) at t)
 
 -- ---- steps moved
 moved-by : (k : ℕ) (x : Pushed) (escape few places : List ℕ) →

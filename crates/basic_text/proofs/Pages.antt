@@ -1,4 +1,4 @@
--- A page's length. Idea: an accepted page has at most `longest` numbers, so that one with more may be taken for the empty one.
+-- A page's length. Idea: an accepted page has at most `longestPage` numbers, so that one with more may be taken for the empty one.
 -- Assumes nothing.
 --     right-page, long-page, odd-page    what `fitting` makes of the pages that `read_page` tells apart
 --     scan-read, write-read              a scan, a write by the page that was read, among other places, is that by the page
@@ -20,20 +20,20 @@ use Rattle.text_input.specs.Scan.{refusalOf, scanOf}
 use Rattle.text_output.specs.declared.TextOutput.{TextOutput}
 use Rattle.text_output.specs.Writer.{sound}
 use Rattle.text_output.specs.Write.{writeRefusal, writeStrOf, writeOf}
-use Rattle.basic_text.specs.Exports.{numbers, pageOf}
-use Rattle.basic_text.specs.Inner.{longest, fitting}
+use Rattle.basic_text.specs.Exports.{numbersOf, pageOf}
+use Rattle.basic_text.specs.Inner.{longestPage, fitting}
 use Rattle.basic_text.proofs.Laws.{length-numbers}
 
 module _ (bytes : List ℕ) where
-  pub right-page : length bytes % 4 ≡ 0 → length bytes / 4 ≤ longest → fitting (pageOf bytes) ≡ numbers bytes
+  pub right-page : length bytes % 4 ≡ 0 → length bytes / 4 ≤ longestPage → fitting (pageOf bytes) ≡ numbersOf bytes
   unfolding fitting
   right-page h k =
-      let e : length (numbers bytes) ≤ longest = omega (arith, length-numbers bytes) in rw (eq-eqb _ _ h, le-leb _ _ e)
+      let e : length (numbersOf bytes) ≤ longestPage = omega (arith, length-numbers bytes) in rw (eq-eqb _ _ h, le-leb _ _ e)
 
-  pub long-page : length bytes % 4 ≡ 0 → longest < length bytes / 4 → fitting (pageOf bytes) ≡ []
+  pub long-page : length bytes % 4 ≡ 0 → longestPage < length bytes / 4 → fitting (pageOf bytes) ≡ []
   unfolding fitting
   long-page h k =
-      let e : longest < length (numbers bytes) = omega (arith, length-numbers bytes) in rw (eq-eqb _ _ h, lt-leb _ _ e)
+      let e : longestPage < length (numbersOf bytes) = omega (arith, length-numbers bytes) in rw (eq-eqb _ _ h, lt-leb _ _ e)
 
   pub odd-page : (length bytes % 4 ≡ 0 → ⊥) → fitting (pageOf bytes) ≡ []
   unfolding fitting
@@ -44,7 +44,7 @@ empty-wrong : accepted [] ≡ false
 unfolding accepted sized
 empty-wrong = refl
 
-too-long : (p : List ℕ) → longest < length p → accepted p ≡ false
+too-long : (p : List ℕ) → longestPage < length p → accepted p ≡ false
 too-long p h =
     by (accepted p)
     (λ e. let s = facts-of-accepted p e .sizes in absurd (omega (arith, s .long, s .nonstarters, s .assigneds)))
@@ -61,8 +61,8 @@ by-fitting : {A : Type 0} (f : List ℕ → A) → ((p q : List ℕ) → accepte
     (p : List ℕ) → f (fitting p) ≡ f p
 unfolding fitting
 by-fitting f alike p =
-    by (leb (length p) longest) (λ e. rw e)
-    (λ e. rw e (alike [] p empty-wrong (too-long p (leb-false (length p) longest e))))
+    by (leb (length p) longestPage) (λ e. rw e)
+    (λ e. rw e (alike [] p empty-wrong (too-long p (leb-false (length p) longestPage e))))
 
 pub scan-read : (r s : TextInput) (o u : Options) (p all : List ℕ) (n : ℕ) (chunk queue : List ℕ) → s ≡ r → u ≡ o →
     take n all ≡ fitting p → scanOf s (take (n - 0) (drop 0 all)) u chunk queue ≡ scanOf r p o chunk queue

@@ -1,5 +1,7 @@
--- What the exported calls read and write: bytes as 32-bit numbers, and a record, options and an answer as plain numbers. The calls
--- themselves are those of `text_input`, specs/Scan.antt, and of `text_output`, specs/Write.antt. Assumes nothing.
+-- What the exported calls read and write: bytes as 32-bit numbers, and a record, options and an answer as plain numbers. Document 01,
+-- "Rust shapes that give way": "Scan, finish and byte write are exported on numbers and byte slices for the Rust harness." The calls
+-- themselves are those of `text_input`, specs/Scan.antt, and of `text_output`, specs/Write.antt. Which number stands for what is our
+-- choice: document 01 leaves this open. Assumes nothing.
 use Prim.Native.Nat.{ℕ, _+_, _*_, _/_, _%_}
 use mathlib.Core.Bool.{Bool, true, false, cond, not}
 use mathlib.Core.List.{List, [], _∷_, _++_}
@@ -25,36 +27,36 @@ use Rattle.basic_text.specs.declared.WriteReply.{WriteReply}
 
 -- ---- bytes as numbers
 -- four bytes as one number, the low byte first
-abbrev pub number : ℕ → ℕ → ℕ → ℕ → ℕ
-number a b c d = a + 256 * b + 65536 * c + 16777216 * d
+abbrev pub numberOf : ℕ → ℕ → ℕ → ℕ → ℕ
+numberOf a b c d = a + 256 * b + 65536 * c + 16777216 * d
 
--- the numbers of a slice of bytes; those past its last whole four are not read
-abbrev pub numbers : List ℕ → List ℕ
-numbers [] = []
-numbers (a ∷ []) = []
-numbers (a ∷ b ∷ []) = []
-numbers (a ∷ b ∷ c ∷ []) = []
-numbers (a ∷ b ∷ c ∷ d ∷ rest) = number a b c d ∷ numbers rest
+-- the numbers of a slice of bytes; those past its last whole four are not read. Document 01 leaves this open.
+abbrev pub numbersOf : List ℕ → List ℕ
+numbersOf [] = []
+numbersOf (a ∷ []) = []
+numbersOf (a ∷ b ∷ []) = []
+numbersOf (a ∷ b ∷ c ∷ []) = []
+numbersOf (a ∷ b ∷ c ∷ d ∷ rest) = numberOf a b c d ∷ numbersOf rest
 
 -- the four bytes of each number, the low byte first
 abbrev pub bytesOf : List ℕ → List ℕ
 bytesOf [] = []
 bytesOf (n ∷ ns) = n % 256 ∷ n / 256 % 256 ∷ n / 65536 % 256 ∷ n / 16777216 % 256 ∷ bytesOf ns
 
--- a page's numbers; one whose length is no multiple of four is a wrong page, as the empty one is
+-- a page's numbers; one whose bytes are no multiple of four is a wrong page, as the empty one is. Document 01 leaves this open.
 abbrev pub pageOf : List ℕ → List ℕ
-pageOf bytes = cond (eqb (length bytes % 4) 0) (numbers bytes) []
+pageOf bytes = cond (eqb (length bytes % 4) 0) (numbersOf bytes) []
 
 -- the queue's bytes as a call leaves them: the places' numbers, and behind them what was there
 abbrev pub withNumbers : List ℕ → List ℕ → List ℕ
 withNumbers places queue = bytesOf places ++ drop (4 * length places) queue
 
 -- ---- a call's arguments
--- 0 is false, and any other number true
+-- 0 is false, and any other number true. Document 01 leaves this open.
 abbrev pub flag : ℕ → Bool
 flag n = not (eqb n 0)
 
--- the states by number; a number past the last is read as 0
+-- the states by number; a number past the last is read as 0. Document 01 leaves this open.
 abbrev pub stateOf : ℕ → State
 stateOf n =
     cond (eqb n 1) (Ground true)
@@ -76,7 +78,7 @@ recordOf r =
       count = r .count;
     }
 
--- bit 0: 85 ends a line; bit 1: 2028 and 2029 do; the other bits have no meaning
+-- bit 0: 85 ends a line; bit 1: 2028 and 2029 do; the other bits have no meaning. Document 01 leaves this open.
 abbrev pub optionsOf : ℕ → Options
 optionsOf n = record { «nel_compatibility» = eqb (n % 2) 1; «lsps_compatibility» = eqb (n / 2 % 2) 1 }
 
@@ -109,7 +111,7 @@ abbrev pub replyOf : Outcome → Reply
 replyOf s = record { refused = refusedBy (s .numbers); written = writtenBy (s .numbers); «record» = recordNumbers (s .next) }
 
 -- ---- the writer
--- the modes by number; a number past the last is read as 0
+-- the modes by number; a number past the last is read as 0. Document 01 leaves this open.
 abbrev pub modeOf : ℕ → Mode
 modeOf n = cond (eqb n 1) Crlf (cond (eqb n 2) Color Plain)
 
@@ -119,7 +121,8 @@ modeNumber Plain = 0
 modeNumber Crlf = 1
 modeNumber Color = 2
 
--- the states by number: 0 after a newline, 1 after a non-end, 2 after another, 3 and 4 in an escape; past the last is read as 0
+-- the states by number: 0 after a newline, 1 after a non-end, 2 after another, 3 and 4 in an escape; a number past the last is read
+-- as 0. Document 01 leaves this open.
 abbrev pub writerStateOf : ℕ → WriterState
 writerStateOf n =
     cond (eqb n 1) (Grounded ZwjOrPrepend)
@@ -167,18 +170,34 @@ handedOut ns = cond (succeeds ns) (getD ns 1 0) 0
 abbrev pub reasonIn : List ℕ → ℕ
 reasonIn ns = cond (succeeds ns) 0 (getD ns 1 0)
 
--- a byte write's answer: behind the reason's number its values, each 0 where there is none
+-- its values: the character that the reason names, how many replacements and which, each 0 where there is none
+abbrev pub characterIn : List ℕ → ℕ
+characterIn ns = getD ns 2 0
+
+abbrev pub countIn : List ℕ → ℕ
+countIn ns = getD ns 3 0
+
+abbrev pub firstIn : List ℕ → ℕ
+firstIn ns = getD ns 4 0
+
+abbrev pub secondIn : List ℕ → ℕ
+secondIn ns = getD ns 5 0
+
+abbrev pub thirdIn : List ℕ → ℕ
+thirdIn ns = getD ns 6 0
+
+-- a byte write's answer
 abbrev pub writeReplyOf : BytesOutcome → WriteReply
 writeReplyOf o =
     record {
       refused = getD (o .outcome .given .numbers) 0 0;
       abandon = flagNumber (o .outcome .given .abandon);
       reason = reasonIn (o .outcome .given .numbers);
-      character = getD (o .outcome .given .numbers) 2 0;
-      count = getD (o .outcome .given .numbers) 3 0;
-      first = getD (o .outcome .given .numbers) 4 0;
-      second = getD (o .outcome .given .numbers) 5 0;
-      third = getD (o .outcome .given .numbers) 6 0;
+      character = characterIn (o .outcome .given .numbers);
+      count = countIn (o .outcome .given .numbers);
+      first = firstIn (o .outcome .given .numbers);
+      second = secondIn (o .outcome .given .numbers);
+      third = thirdIn (o .outcome .given .numbers);
       used = o .used;
       written = handedOut (o .outcome .given .numbers);
       writer = writerNumbers (o .outcome .given .next);

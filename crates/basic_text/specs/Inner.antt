@@ -1,38 +1,40 @@
--- What the contracts of private functions cite. The contracts of the exports cite nothing of it. Assumes nothing.
+-- What the contracts of private functions cite. The contracts of the exports cite nothing of it. Document 01, "A chunk comes in" for
+-- the page, "Characters go out" for the rest. Assumes nothing.
 use Prim.Native.Nat.{ℕ, _+_, _*_}
 use mathlib.Core.Bool.{cond}
 use mathlib.Core.List.{List, []}
 use lib.Dec.{leb}
-use lib.ListN.{length, getD, drop}
+use lib.ListN.{length, drop}
 use Rattle.text_write.specs.declared.store.Place.{Place}
 use Rattle.text_write.specs.declared.store.Pushed.{Pushed}
 use Rattle.text_write.specs.declared.store.Pushed.the-variants.{On, Stopped}
 use Rattle.basic_text.specs.declared.plain_writer.Reason.{Reason}
-use Rattle.basic_text.specs.Exports.{numbers}
+use Rattle.basic_text.specs.Exports.{numbersOf, reasonIn, characterIn, countIn, firstIn, secondIn, thirdIn}
 
--- the numbers of the longest page that is accepted: 2 + 2 × (2,048 + 2,048)
-abbrev pub longest : ℕ
-longest = 8194
+-- the numbers of the longest page that is accepted: "N nonstarter ranges, A assigned ranges (0 to 2,048 each)" and "The length is
+-- exactly 2 + 2 × (N + A)"
+abbrev pub longestPage : ℕ
+longestPage = 8194
 
--- a page that is too long to be accepted is as wrong as the empty one
+-- a page that is too long to be accepted is as wrong as the empty one, and not read
 unfoldable pub fitting : List ℕ → List ℕ
-fitting p = cond (leb (length p) longest) p []
+fitting p = cond (leb (length p) longestPage) p []
 
--- a reason's number and its values, by name: each 0 where there is none
+-- the reason of a refusal by 4, by its answer's numbers
 abbrev pub reasonBy : List ℕ → Reason
 reasonBy ns =
     record {
-      number = getD ns 0 0;
-      character = getD ns 1 0;
-      count = getD ns 2 0;
-      first = getD ns 3 0;
-      second = getD ns 4 0;
-      third = getD ns 5 0;
+      number = reasonIn ns;
+      character = characterIn ns;
+      count = countIn ns;
+      first = firstIn ns;
+      second = secondIn ns;
+      third = thirdIn ns;
     }
 
 -- the bytes past the last whole four
 abbrev pub tail : List ℕ → List ℕ
-tail queue = drop (4 * length (numbers queue)) queue
+tail queue = drop (4 * length (numbersOf queue)) queue
 
 -- the place, moved
 unfoldable pub atPlace : Place → ℕ → Place

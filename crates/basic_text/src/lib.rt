@@ -34,8 +34,8 @@ ghost use Prim.Native.Nat.{_≤_};
 ghost use lib.ListN.{length, take};
 ghost use Rattle.text_input.specs.Scan.{outcome, scanOf, finishOf};
 ghost use Rattle.text_output.specs.Write.{writeOf};
-ghost use Rattle.basic_text.specs.Exports.{numbers, pageOf, withNumbers, flag, recordOf, optionsOf, replyOf, writerOf, writeReplyOf};
-ghost use Rattle.basic_text.specs.Inner.{longest, fitting};
+ghost use Rattle.basic_text.specs.Exports.{numbersOf, pageOf, withNumbers, flag, recordOf, optionsOf, replyOf, writerOf, writeReplyOf};
+ghost use Rattle.basic_text.specs.Inner.{longestPage, fitting};
 
 // The scanner's record. A state's number past the last is read as 0, and a flag is false at 0 alone.
 #[repr(C)]
@@ -90,8 +90,8 @@ const LONGEST: usize = 8194;
 // Reads a page into the first places of all, and answers how many numbers it has: none for one that is wrong by its length.
 // Inner: asks for room for the longest page.
 fn read_page(page: &[u8], all: &mut [u32]) -> usize
-    requires { ⌜ longest ≤ length (now all) ⌝ }
-    ensures { λ r. ⌜ r ≤ longest ⌝ }
+    requires { ⌜ longestPage ≤ length (now all) ⌝ }
+    ensures { λ r. ⌜ r ≤ longestPage ⌝ }
     ensures { λ r. ⌜ take r (now (all .exit)) ≡ fitting (pageOf (now (page .entry))) ⌝ }
 {
     let n = page.len() / 4;
@@ -108,12 +108,12 @@ fn read_page(page: &[u8], all: &mut [u32]) -> usize
 // The scan by a page of numbers. Total.
 fn scan(r: TextInput, page: &[u32], options: Options, chunk: &[u8], queue: &mut [u8]) -> Scanned
     ensures { λ s. ⌜
-        outcome s (scanOf r (now (page .entry)) options (numbers (now (chunk .entry))) (numbers (now (queue .entry))) .places)
-        ≡ scanOf r (now (page .entry)) options (numbers (now (chunk .entry))) (numbers (now (queue .entry)))
+        outcome s (scanOf r (now (page .entry)) options (numbersOf (now (chunk .entry))) (numbersOf (now (queue .entry))) .places)
+        ≡ scanOf r (now (page .entry)) options (numbersOf (now (chunk .entry))) (numbersOf (now (queue .entry)))
         ⌝ }
     ensures { λ s. ⌜
         now (queue .exit)
-        ≡ withNumbers (scanOf r (now (page .entry)) options (numbers (now (chunk .entry))) (numbers (now (queue .entry))) .places) (now (queue .entry))
+        ≡ withNumbers (scanOf r (now (page .entry)) options (numbersOf (now (chunk .entry))) (numbersOf (now (queue .entry))) .places) (now (queue .entry))
         ⌝ }
 {
     let n = chunk.len() / 4;
@@ -152,12 +152,12 @@ pub extern "C" fn basic_text_scan(
 ) -> Reply
     ensures reply { λ r. ⌜
         r
-        ≡ replyOf (scanOf (recordOf «record») (pageOf (now (page .entry))) (optionsOf options) (numbers (now (chunk .entry))) (numbers (now (queue .entry))))
+        ≡ replyOf (scanOf (recordOf «record») (pageOf (now (page .entry))) (optionsOf options) (numbersOf (now (chunk .entry))) (numbersOf (now (queue .entry))))
         ⌝ }
     ensures places { λ r. ⌜
         now (queue .exit)
         ≡ withNumbers
-        (scanOf (recordOf «record») (pageOf (now (page .entry))) (optionsOf options) (numbers (now (chunk .entry))) (numbers (now (queue .entry))) .places)
+        (scanOf (recordOf «record») (pageOf (now (page .entry))) (optionsOf options) (numbersOf (now (chunk .entry))) (numbersOf (now (queue .entry))) .places)
         (now (queue .entry))
         ⌝ }
 {
@@ -171,8 +171,8 @@ pub extern "C" fn basic_text_scan(
 
 // The finish. Total: what it appends is stored as numbers first, since that is at most two.
 fn finish(r: TextInput, eof: bool, queue: &mut [u8]) -> Scanned
-    ensures { λ s. ⌜ outcome s (finishOf r eof (numbers (now (queue .entry))) .places) ≡ finishOf r eof (numbers (now (queue .entry))) ⌝ }
-    ensures { λ s. ⌜ now (queue .exit) ≡ withNumbers (finishOf r eof (numbers (now (queue .entry))) .places) (now (queue .entry)) ⌝ }
+    ensures { λ s. ⌜ outcome s (finishOf r eof (numbersOf (now (queue .entry))) .places) ≡ finishOf r eof (numbersOf (now (queue .entry))) ⌝ }
+    ensures { λ s. ⌜ now (queue .exit) ≡ withNumbers (finishOf r eof (numbersOf (now (queue .entry))) .places) (now (queue .entry)) ⌝ }
 {
     if queue.len() / 4 < 2 {
         return Scanned {
@@ -195,9 +195,9 @@ fn finish(r: TextInput, eof: bool, queue: &mut [u8]) -> Scanned
 // The stream is pushed, or it ends. The queue is lent as bytes; what is pending goes to its first places, with what ends a text.
 #[no_mangle]
 pub extern "C" fn basic_text_finish(record: Record, eof: u32, queue: &mut [u8]) -> Reply
-    ensures reply { λ r. ⌜ r ≡ replyOf (finishOf (recordOf «record») (flag eof) (numbers (now (queue .entry)))) ⌝ }
+    ensures reply { λ r. ⌜ r ≡ replyOf (finishOf (recordOf «record») (flag eof) (numbersOf (now (queue .entry)))) ⌝ }
     ensures places { λ r. ⌜
-        now (queue .exit) ≡ withNumbers (finishOf (recordOf «record») (flag eof) (numbers (now (queue .entry))) .places) (now (queue .entry))
+        now (queue .exit) ≡ withNumbers (finishOf (recordOf «record») (flag eof) (numbersOf (now (queue .entry))) .places) (now (queue .entry))
         ⌝ }
 {
     let r = record_of(record);
@@ -216,12 +216,12 @@ pub extern "C" fn basic_text_write(
     queue: &mut [u8],
 ) -> WriteReply
     ensures reply { λ r. ⌜
-        r ≡ writeReplyOf (writeOf (writerOf writer) (pageOf (now (page .entry))) (now (bytes .entry)) (numbers (now (queue .entry))))
+        r ≡ writeReplyOf (writeOf (writerOf writer) (pageOf (now (page .entry))) (now (bytes .entry)) (numbersOf (now (queue .entry))))
         ⌝ }
     ensures places { λ r. ⌜
         now (queue .exit)
         ≡ withNumbers
-        (writeOf (writerOf writer) (pageOf (now (page .entry))) (now (bytes .entry)) (numbers (now (queue .entry))) .outcome .places)
+        (writeOf (writerOf writer) (pageOf (now (page .entry))) (now (bytes .entry)) (numbersOf (now (queue .entry))) .outcome .places)
         (now (queue .entry))
         ⌝ }
 {

@@ -6,11 +6,11 @@ ghost use Prim.Native.Nat.{_+_, _*_, _≤_, _<_};
 ghost use lib.ListN.{length, getD, take};
 ghost use lib.Seq.{sets};
 ghost use Rattle.unicode.specs.Chars.{areChars, filled};
-ghost use Rattle.basic_text.specs.Exports.{number, numbers, bytesOf};
+ghost use Rattle.basic_text.specs.Exports.{numberOf, numbersOf, bytesOf};
 
 // Four bytes as a number. Total.
 fn joined(a: u8, b: u8, c: u8, d: u8) -> u32
-    ensures { λ r. ⌜ r ≡ number a b c d ⌝ }
+    ensures { λ r. ⌜ r ≡ numberOf a b c d ⌝ }
 {
     a as u32 + 256 * (b as u32) + 65536 * (c as u32) + 16777216 * (d as u32)
 }
@@ -18,7 +18,7 @@ fn joined(a: u8, b: u8, c: u8, d: u8) -> u32
 // The number at place i. Inner: asks that it is there.
 pub fn read_number(bytes: &[u8], i: usize) -> u32
     requires { ⌜ 4 * (i + 1) ≤ length (now bytes) ⌝ }
-    ensures { λ r. ⌜ r ≡ getD (numbers (now (bytes .entry))) i 0 ⌝ }
+    ensures { λ r. ⌜ r ≡ getD (numbersOf (now (bytes .entry))) i 0 ⌝ }
 {
     let at = 4 * i;
     joined(bytes[at], bytes[at + 1], bytes[at + 2], bytes[at + 3])
@@ -38,8 +38,8 @@ fn write_number(bytes: &mut [u8], i: usize, n: u32)
 
 // Reads all numbers into the first places of out. Inner: asks for room.
 pub fn read_numbers(bytes: &[u8], out: &mut [u32])
-    requires { ⌜ length (numbers (now bytes)) ≤ length (now out) ⌝ }
-    ensures { λ r. ⌜ now (out .exit) ≡ filled (numbers (now (bytes .entry))) (now (out .entry)) ⌝ }
+    requires { ⌜ length (numbersOf (now bytes)) ≤ length (now out) ⌝ }
+    ensures { λ r. ⌜ now (out .exit) ≡ filled (numbersOf (now (bytes .entry))) (now (out .entry)) ⌝ }
 {
     let mut i = 0;
     while i < bytes.len() / 4 {
@@ -63,7 +63,7 @@ pub fn write_numbers(bytes: &mut [u8], k: usize, from: &[u32], n: usize)
 
 // Whether every number is a character. Total.
 pub fn hold_chars(bytes: &[u8]) -> bool
-    ensures { λ r. ⌜ r ≡ areChars (numbers (now (bytes .entry))) ⌝ }
+    ensures { λ r. ⌜ r ≡ areChars (numbersOf (now (bytes .entry))) ⌝ }
 {
     let mut good = true;
     let mut i = 0;

@@ -112,14 +112,14 @@ pub fn writer_numbers(w: TextOutput) -> Writer
 
 // A reason that carries no value.
 fn bare(number: u32) -> Reason
-    ensures { λ r. ⌜ r ≡ reasonBy (number ∷ []) ⌝ }
+    ensures { λ r. ⌜ r ≡ reasonBy (4 ∷ number ∷ []) ⌝ }
 {
     naming(number, 0)
 }
 
 // A reason that names a character.
 fn naming(number: u32, character: u32) -> Reason
-    ensures { λ r. ⌜ r ≡ reasonBy (number ∷ character ∷ []) ⌝ }
+    ensures { λ r. ⌜ r ≡ reasonBy (4 ∷ number ∷ character ∷ []) ⌝ }
 {
     Reason {
         number,
@@ -132,7 +132,7 @@ fn naming(number: u32, character: u32) -> Reason
 }
 
 fn reason_of(e: BasicTextError) -> Reason
-    ensures { λ r. ⌜ r ≡ reasonBy (errorNumbers e) ⌝ }
+    ensures { λ r. ⌜ r ≡ reasonBy (4 ∷ errorNumbers e) ⌝ }
 {
     match e {
         BasicTextError::ColorEscapeSequence => bare(1),

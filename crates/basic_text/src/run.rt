@@ -15,11 +15,11 @@ ghost use Rattle.unicode.specs.Chars.{filled};
 ghost use Rattle.page.specs.Page.{accepted};
 ghost use Rattle.text_input.specs.Step.{stepOf, outChars};
 ghost use Rattle.text_input.specs.Scan.{outs, ends, skipped};
-ghost use Rattle.basic_text.specs.Exports.{numbers, bytesOf};
+ghost use Rattle.basic_text.specs.Exports.{numbersOf, bytesOf};
 
 // How many characters of the chunk are dropped: a leading FEFF, where no scan was accepted before. Total.
 pub fn skips(r: TextInput, chunk: &[u8]) -> usize
-    ensures { λ n. ⌜ n ≡ skipped r (numbers (now (chunk .entry))) ⌝ }
+    ensures { λ n. ⌜ n ≡ skipped r (numbersOf (now (chunk .entry))) ⌝ }
 {
     if r.at_start {
         if 4 <= chunk.len() {
@@ -61,11 +61,11 @@ pub fn run(
     queue: &mut [u8],
 ) -> Ran
     requires { ⌜ accepted (now page) ≡ true ⌝ }
-    requires { ⌜ from ≤ length (numbers (now chunk)) ⌝ }
-    requires { ⌜ 4 * length (outs (now page) options first (drop from (numbers (now chunk)))) ≤ length (now queue) ⌝ }
-    ensures written { λ ran. ⌜ ran .written ≡ length (outs (now (page .entry)) options first (drop from (numbers (now (chunk .entry))))) ⌝ }
-    ensures next { λ ran. ⌜ ran .next ≡ ends (now (page .entry)) options first (drop from (numbers (now (chunk .entry)))) ⌝ }
-    ensures places { λ ran. ⌜ now (queue .exit) ≡ filled (bytesOf (outs (now (page .entry)) options first (drop from (numbers (now (chunk .entry)))))) (now (queue .entry)) ⌝ }
+    requires { ⌜ from ≤ length (numbersOf (now chunk)) ⌝ }
+    requires { ⌜ 4 * length (outs (now page) options first (drop from (numbersOf (now chunk)))) ≤ length (now queue) ⌝ }
+    ensures written { λ ran. ⌜ ran .written ≡ length (outs (now (page .entry)) options first (drop from (numbersOf (now (chunk .entry))))) ⌝ }
+    ensures next { λ ran. ⌜ ran .next ≡ ends (now (page .entry)) options first (drop from (numbersOf (now (chunk .entry)))) ⌝ }
+    ensures places { λ ran. ⌜ now (queue .exit) ≡ filled (bytesOf (outs (now (page .entry)) options first (drop from (numbersOf (now (chunk .entry)))))) (now (queue .entry)) ⌝ }
 {
     let mut r = first;
     let mut k = 0;

@@ -32,14 +32,14 @@ ghost use Rattle.text_output.specs.Writer.{sound, bytesOutcome};
 ghost use Rattle.text_output.specs.Step.{stepsOf};
 ghost use Rattle.text_output.specs.Write.{runIn, writeOf};
 ghost use Rattle.text_write.specs.Inner.{writerAt, pushed, stored, progress, turnOf, isolatorAfter};
-ghost use Rattle.basic_text.specs.Exports.{numbers, withNumbers};
+ghost use Rattle.basic_text.specs.Exports.{numbersOf, withNumbers};
 ghost use Rattle.basic_text.specs.Inner.{tail, atPlace, placeIn, behindOf};
 
 // Stores the first n of some numbers from place k on. Inner: asks for room.
 fn store_numbers(queue: &mut [u8], k: usize, from: &[u32], n: usize)
     requires { ⌜ n ≤ length (now from) ⌝ }
-    requires { ⌜ k + n ≤ length (numbers (now queue)) ⌝ }
-    ensures places { λ r. ⌜ numbers (now (queue .exit)) ≡ sets (numbers (now (queue .entry))) k (take n (now (from .entry))) ⌝ }
+    requires { ⌜ k + n ≤ length (numbersOf (now queue)) ⌝ }
+    ensures places { λ r. ⌜ numbersOf (now (queue .exit)) ≡ sets (numbersOf (now (queue .entry))) k (take n (now (from .entry))) ⌝ }
     ensures tail { λ r. ⌜ tail (now (queue .exit)) ≡ tail (now (queue .entry)) ⌝ }
 {
     write_numbers(queue, k, from, n);
@@ -64,10 +64,10 @@ fn at_place(w: Place, at: usize) -> Place
 // What some steps stored in few, moved to the queue from place k on. Inner: asks for room.
 fn move_behind(pushed: Pushed, k: usize, few: &[u32], queue: &mut [u8]) -> Pushed
     requires few { ⌜ placeIn pushed .at ≤ length (now few) ⌝ }
-    requires room { ⌜ k + placeIn pushed .at ≤ length (numbers (now queue)) ⌝ }
+    requires room { ⌜ k + placeIn pushed .at ≤ length (numbersOf (now queue)) ⌝ }
     ensures moved { λ r. ⌜ r ≡ behindOf k pushed ⌝ }
     ensures places { λ r. ⌜
-        numbers (now (queue .exit)) ≡ sets (numbers (now (queue .entry))) k (take (placeIn pushed .at) (now (few .entry)))
+        numbersOf (now (queue .exit)) ≡ sets (numbersOf (now (queue .entry))) k (take (placeIn pushed .at) (now (few .entry)))
         ⌝ }
     ensures tail { λ r. ⌜ tail (now (queue .exit)) ≡ tail (now (queue .entry)) ⌝ }
 {
@@ -97,11 +97,11 @@ fn turn_bytes(
     requires sound { ⌜ sound (writerAt w (now escape)) ≡ true ⌝ }
     requires long { ⌜ length (now escape) ≡ 64 ⌝ }
     requires room { ⌜
-        w .at + length (pushed (turnOf crlf (now page) (writerAt w (now escape)) isolator c)) ≤ length (numbers (now queue))
+        w .at + length (pushed (turnOf crlf (now page) (writerAt w (now escape)) isolator c)) ≤ length (numbersOf (now queue))
         ⌝ }
     ensures steps { λ r. ⌜
-        progress (r .pushed) (now (escape .exit)) (numbers (now (queue .exit)))
-        ≡ stored (w .at) (numbers (now (queue .entry))) (turnOf crlf (now (page .entry)) (writerAt w (now (escape .entry))) isolator c)
+        progress (r .pushed) (now (escape .exit)) (numbersOf (now (queue .exit)))
+        ≡ stored (w .at) (numbersOf (now (queue .entry))) (turnOf crlf (now (page .entry)) (writerAt w (now (escape .entry))) isolator c)
         ⌝ }
     ensures isolator { λ r. ⌜ r .isolator ≡ isolatorAfter crlf (now (page .entry)) isolator c ⌝ }
     ensures tail { λ r. ⌜ tail (now (queue .exit)) ≡ tail (now (queue .entry)) ⌝ }
@@ -126,11 +126,11 @@ fn finish_bytes(
     requires sound { ⌜ sound (writerAt w (now escape)) ≡ true ⌝ }
     requires long { ⌜ length (now escape) ≡ 64 ⌝ }
     requires room { ⌜
-        w .at + length (pushed (stepsOf (writerAt w (now escape)) [] (lastOwed isolator))) ≤ length (numbers (now queue))
+        w .at + length (pushed (stepsOf (writerAt w (now escape)) [] (lastOwed isolator))) ≤ length (numbersOf (now queue))
         ⌝ }
     ensures steps { λ r. ⌜
-        progress r (now (escape .exit)) (numbers (now (queue .exit)))
-        ≡ stored (w .at) (numbers (now (queue .entry))) (stepsOf (writerAt w (now (escape .entry))) [] (lastOwed isolator))
+        progress r (now (escape .exit)) (numbersOf (now (queue .exit)))
+        ≡ stored (w .at) (numbersOf (now (queue .entry))) (stepsOf (writerAt w (now (escape .entry))) [] (lastOwed isolator))
         ⌝ }
     ensures tail { λ r. ⌜ tail (now (queue .exit)) ≡ tail (now (queue .entry)) ⌝ }
 {
@@ -153,11 +153,11 @@ fn run_write(
     requires long { ⌜ length (now escape) ≡ 64 ⌝ }
     requires room { ⌜
         start .at + length (pushed (runIn (start .mode) (now page) (writerAt start (now escape)) (charsOf (now bytes))))
-        ≤ length (numbers (now queue))
+        ≤ length (numbersOf (now queue))
         ⌝ }
     ensures steps { λ r. ⌜
-        progress r (now (escape .exit)) (numbers (now (queue .exit)))
-        ≡ stored (start .at) (numbers (now (queue .entry))) (runIn (start .mode) (now (page .entry)) (writerAt start (now (escape .entry))) (charsOf (now (bytes .entry))))
+        progress r (now (escape .exit)) (numbersOf (now (queue .exit)))
+        ≡ stored (start .at) (numbersOf (now (queue .entry))) (runIn (start .mode) (now (page .entry)) (writerAt start (now (escape .entry))) (charsOf (now (bytes .entry))))
         ⌝ }
     ensures tail { λ r. ⌜ tail (now (queue .exit)) ≡ tail (now (queue .entry)) ⌝ }
 {
@@ -189,7 +189,7 @@ fn run_write(
 
 // The first number of the queue, 0 where there is none.
 fn first_number(queue: &[u8]) -> u32
-    ensures { λ r. ⌜ r ≡ getD (numbers (now (queue .entry))) 0 0 ⌝ }
+    ensures { λ r. ⌜ r ≡ getD (numbersOf (now (queue .entry))) 0 0 ⌝ }
 {
     if queue.len() < 4 {
         return 0;
@@ -200,11 +200,11 @@ fn first_number(queue: &[u8]) -> u32
 // The write of bytes by a page of numbers. Total.
 pub fn write(w: TextOutput, page: &[u32], bytes: &[u8], queue: &mut [u8]) -> WrittenBytes
     ensures outcome { λ r. ⌜
-        bytesOutcome r (numbers (now (queue .exit))) ≡ writeOf w (now (page .entry)) (now (bytes .entry)) (numbers (now (queue .entry)))
+        bytesOutcome r (numbersOf (now (queue .exit))) ≡ writeOf w (now (page .entry)) (now (bytes .entry)) (numbersOf (now (queue .entry)))
         ⌝ }
     ensures places { λ r. ⌜
         now (queue .exit)
-        ≡ withNumbers (writeOf w (now (page .entry)) (now (bytes .entry)) (numbers (now (queue .entry))) .outcome .places) (now (queue .entry))
+        ≡ withNumbers (writeOf w (now (page .entry)) (now (bytes .entry)) (numbersOf (now (queue .entry))) .outcome .places) (now (queue .entry))
         ⌝ }
 {
     let prefix = valid_prefix(bytes);

@@ -5,14 +5,13 @@
 --     passes-others    the queue passes the color and the CRLF writer too
 use Prim.Native.Nat.{ℕ}
 use native.Mathlib.Nat.{zero-add}
-use mathlib.Core.Bool.{true, not}
+use mathlib.Core.Bool.{true}
 use mathlib.Core.List.{List, flatten}
 use mathlib.Core.Path.{_≡_, _∙_}
 use lib.ListN.{length}
 use Rattle.unicode.specs.Chars.{areChars}
 use Rattle.page.specs.Page.{accepted}
-use Rattle.replace.specs.Table.{inSpans}
-use Rattle.check_char.specs.Check.{excepted, clean, all}
+use Rattle.check_char.specs.Check.{clean, all}
 use Rattle.isolate_unassigned.specs.Isolate.{isolateOf}
 use Rattle.text_input.specs.declared.Options.{Options}
 use Rattle.text_input.specs.Scan.{Outcome, fresh}
@@ -25,7 +24,7 @@ use Rattle.text_output.proofs.Writable.{writable, writable-of}
 use Rattle.text_output.proofs.Passing.{startsWell, endsWell, passes-plain}
 use Rattle.text_output.proofs.Modes.{passes-color, passes-crlf}
 use Rattle.demand.specs.Calls.{Call, Seen, queueOf, recordAfter, acceptedFrom, acceptedChunks, textOf, FinishedOnce}
-use Rattle.demand.specs.Demand.{ExactlyOne, Promise, Demand3, Others, PassesOthers}
+use Rattle.demand.specs.Demand.{ExactlyOne, NoneExcepted, Promise, Demand3, Others, PassesOthers}
 use Rattle.demand.proofs.Holds.{cleaned-starts, cleaned-ends, whole-clean, whole-chars}
 use Rattle.demand.proofs.Listed.{queue-listed, count-listed, chars-listed}
 
@@ -67,7 +66,7 @@ module _ (page : List ℕ) (good : accepted page ≡ true) (options : Options) (
   queue-ends : endsWell true queue ≡ true
   queue-ends = rw queue-is (cleaned-ends page pieces)
 
-  module _ (none : all (λ (c : ℕ). not (inSpans excepted c)) queue ≡ true) where
+  module _ (none : NoneExcepted queue) where
     queue-writable : all writable queue ≡ true
     queue-writable = writable-of queue queue-clean none
 

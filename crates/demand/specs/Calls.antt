@@ -11,7 +11,7 @@ use Rattle.page.specs.Page.{accepted}
 use Rattle.text_input.specs.declared.Options.{Options}
 use Rattle.text_input.specs.declared.TextInput.{TextInput}
 use Rattle.text_input.specs.Scan.{Outcome, wroteBy, refusalOf, scanOf, finishOf}
-use Rattle.text_input.specs.Streams.{unmarkedFirst}
+use Rattle.text_input.specs.Streams.{withoutBomFirst}
 
 -- ---- the calls
 -- a scan brings a page, options, a chunk and lent places; a finish says whether it is end of file, and brings lent places
@@ -74,7 +74,7 @@ acceptedChunks calls = chunksOf (acceptedFrom 0 calls)
 
 -- they joined, without a U+FEFF that begins the first of them
 unfoldable pub textOf : List Call → List ℕ
-textOf calls = flatten (unmarkedFirst (acceptedChunks calls))
+textOf calls = flatten (withoutBomFirst (acceptedChunks calls))
 
 -- ---- the streams of demand 3
 -- accepted calls that all use this page and these options, and whose one finish, as end of file, comes last

@@ -1,6 +1,6 @@
--- DEMAND 3: what a list of calls that is finished once, as end of file, comes to. Last, beyond it, that its queue passes the writers
--- of the other modes too. Assumes nothing.
-use Prim.Native.Nat.{ℕ, _≤_}
+-- DEMAND 3: what a list of calls that is finished once, as end of file, comes to. Document 01, "Agreed between us", with "Pieces of a
+-- text". Last, beyond it, that its queue passes the writers of the other modes too. Assumes nothing.
+use Prim.Native.Nat.{ℕ}
 use mathlib.Core.Bool.{true, not}
 use mathlib.Core.List.{List, flatten}
 use mathlib.Core.Path.{_≡_}
@@ -14,10 +14,7 @@ use Rattle.text_input.specs.declared.TextInput.{TextInput}
 use Rattle.text_input.specs.Scan.{Outcome, fresh}
 use Rattle.text_input.specs.Pieces.{Piece, Reading, cleaned}
 use Rattle.text_output.specs.declared.Mode.the-variants.{Plain, Crlf, Color}
-use Rattle.text_output.specs.Writer.{Given, Outcome as WriteOutcome, fresh as freshWriter}
-use Rattle.text_output.specs.Write.{placesFor, writeStrOf}
-use Rattle.text_output.specs.Close.{closeOf}
-use Rattle.text_output.specs.Passing.{Passes, PassesIn, crlfOf}
+use Rattle.text_output.specs.Passing.{PassesIn, crlfOf}
 use Rattle.demand.specs.Calls.{Call, Seen, queueOf, recordAfter, acceptedFrom, acceptedChunks, textOf, FinishedOnce}
 
 -- there is one, and no other
@@ -25,6 +22,10 @@ pub record ExactlyOne (A : Type 0) (P : A → Type 0) : Type 0 where
   pub one : A
   pub is : P one
   pub only : (other : A) → P other → other ≡ one
+
+-- a queue holds none of 2126, 212A, 212B and the ideographs: "The ideographs excepted are those that `check_basic_text_char` lists."
+abbrev pub NoneExcepted : List ℕ → Type 0
+NoneExcepted queue = all (λ (c : ℕ). not (inSpans excepted c)) queue ≡ true
 
 -- what is promised of a page, options, calls, the queue and the record after the calls
 pub record Promise (page : List ℕ) (options : Options) (calls : List Call) (queue : List ℕ) (last : TextInput) : Type 0 where
@@ -35,15 +36,11 @@ pub record Promise (page : List ℕ) (options : Options) (calls : List Call) (qu
   pub image : (xs : List Piece) → Reading options (textOf calls) xs → queue ≡ cleaned page xs
   -- "The record holds a 32-bit count of characters taken, dropped ones included.": those of the accepted chunks
   pub count : last .count ≡ length (flatten (acceptedChunks calls))
-  -- the queue holds no ESC, and nothing that the check refuses but 2126, 212A, 212B and the ideographs: "The ideographs
-  -- excepted are those that `check_basic_text_char` lists."
+  -- the queue holds no ESC, and nothing that the check refuses but the excepted ones
   pub holds : all clean queue ≡ true
-  -- holding none of these, it passes: "The write and the close are on a writer record of their own, the close on the one that the
-  -- write returned. Enough room is at least what a write of that length needs."
-  pub passes : all (λ (c : ℕ). not (inSpans excepted c)) queue ≡ true →
-      (places : List ℕ) → placesFor (freshWriter Plain) (length queue) ≤ length places →
-      (wrote : WriteOutcome) → wrote ≡ writeStrOf (freshWriter Plain) page queue places →
-      (closed : Given) → closed ≡ closeOf (wrote .given .next) → Passes (isolateOf page queue) wrote closed
+  -- holding none of these, it passes a plain writer: "The write and the close are on a writer record of their own, the close on the
+  -- one that the write returned." It hands out "the queue isolated as one run with the page."
+  pub passes : NoneExcepted queue → PassesIn Plain page queue (isolateOf page queue)
 
 -- for every accepted page, options, list of calls and what a caller sees of it, from a fresh record
 abbrev pub Demand3 : Type 0
@@ -67,4 +64,4 @@ PassesOthers =
     (page : List ℕ) → accepted page ≡ true → (options : Options) →
     (calls : List Call) → FinishedOnce page options (acceptedFrom 0 calls) →
     (seen : List Outcome) → Seen fresh calls seen →
-    all (λ (c : ℕ). not (inSpans excepted c)) (queueOf seen) ≡ true → Others page (queueOf seen)
+    NoneExcepted (queueOf seen) → Others page (queueOf seen)

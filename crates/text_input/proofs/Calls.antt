@@ -20,7 +20,7 @@ use Rattle.text_input.specs.declared.Options.{Options}
 use Rattle.text_input.specs.declared.TextInput.{TextInput}
 use Rattle.text_input.specs.declared.step.Lead.{Lead}
 use Rattle.text_input.specs.Step.{leadChars, lastOf}
-use Rattle.text_input.specs.Scan.{outs, ends, placesFor, refusalOf, scanRefusal, mark, skipped, opened, outcome, refused, scanOf, pendingOf, afterLine, endMarkOf, newlineOf, finishChars, finishNext, finishOf}
+use Rattle.text_input.specs.Scan.{outs, ends, placesFor, refusalOf, scanRefusal, leadingBom, skipped, opened, outcome, refused, scanOf, pendingOf, afterLine, endMarkOf, newlineOf, finishChars, finishNext, finishOf}
 use Rattle.text_input.proofs.Kit.{last-three}
 use Rattle.text_input.proofs.Room.{part-room, ending-room}
 
@@ -33,16 +33,16 @@ passed true true true e h = absurd (omega arith)
 passed true false d e h = absurd (omega arith)
 passed false b d e h = absurd (omega arith)
 
-mark-le : (cs : List ℕ) → mark cs ≤ length cs
-mark-le [] = omega arith
-mark-le (c ∷ cs) = one (eqb c 0xFEFF)
+bom-le : (cs : List ℕ) → leadingBom cs ≤ length cs
+bom-le [] = omega arith
+bom-le (c ∷ cs) = one (eqb c 0xFEFF)
   where
     one : (b : Bool) → cond b 1 0 ≤ suc (length cs)
     one true = omega arith
     one false = omega arith
 
 skip-le : (r : TextInput) (chunk : List ℕ) → skipped r chunk ≤ length chunk
-skip-le r chunk = split (λ n. n ≤ length chunk) (r .«at_start») (λ h. mark-le chunk) (λ h. omega arith)
+skip-le r chunk = split (λ n. n ≤ length chunk) (r .«at_start») (λ h. bom-le chunk) (λ h. omega arith)
 
 rest : (l : List ℕ) (s : ℕ) → take (length l - s) (drop s l) ≡ drop s l
 rest l s = take-all (length l - s) (drop s l) (omega (arith, length-drop s l))

@@ -24,8 +24,8 @@ use Rattle.text_input.specs.declared.step.Met.{Met}
 use Rattle.text_input.specs.declared.step.Met.the-variants.{Line, Opens, Other}
 use Rattle.text_input.specs.declared.step.Step.{Step}
 use Rattle.text_input.specs.Step.{metOf, leftOf, leaveOf, meetOf, stepOf}
-use Rattle.text_input.specs.Scan.{outs, ends, opened, mark, skipped, scanChars, scanNext}
-use Rattle.text_input.specs.Streams.{scansChars, scansNext, unmarked}
+use Rattle.text_input.specs.Scan.{outs, ends, opened, leadingBom, skipped, scanChars, scanNext}
+use Rattle.text_input.specs.Streams.{scansChars, scansNext, withoutBom}
 use Rattle.text_input.proofs.Meaning.{ends-start}
 
 -- ---- a run over joined texts
@@ -76,12 +76,12 @@ module _ (p : List ℕ) (o : Options) where
   ends-marked r start count [] = refl
   ends-marked r start count (c ∷ t) = rw (step-marked r start count c) (ends-marked (stepOf p o r c .next) start count t)
 
-  -- ---- one scan, where the chunk without a dropped mark is t
+  -- ---- one scan, where the chunk without a dropped U+FEFF is t
   spent : (r : TextInput) → r .«at_start» ≡ false → (c : List ℕ) → drop (skipped r c) c ≡ c
-  spent r h c = ap (λ b. drop (cond b (mark c) 0) c) h
+  spent r h c = ap (λ b. drop (cond b (leadingBom c) 0) c) h
 
-  unspent : (r : TextInput) → r .«at_start» ≡ true → (c : List ℕ) → drop (skipped r c) c ≡ unmarked c
-  unspent r h c = ap (λ b. drop (cond b (mark c) 0) c) h
+  unspent : (r : TextInput) → r .«at_start» ≡ true → (c : List ℕ) → drop (skipped r c) c ≡ withoutBom c
+  unspent r h c = ap (λ b. drop (cond b (leadingBom c) 0) c) h
 
   scan-outs : (r : TextInput) (c t : List ℕ) → drop (skipped r c) c ≡ t → scanChars p o r c ≡ outs p o r t
   scan-outs r c t h = ap (outs p o (opened r (length c))) h ∙ outs-marked r _ _ t
@@ -145,20 +145,20 @@ module _ (p : List ℕ) (o : Options) where
       scansNext p o r cs ≡ scanNext p o r (flatten cs)
   chunks-spent-next r h cs = spent-ends r h cs ∙ sym (scan-ends r (flatten cs) (flatten cs) (spent r h (flatten cs)))
 
-  -- ---- the chance is there: the first chunk loses its mark
+  -- ---- the chance is there: the first chunk loses its U+FEFF
   pub chunks-first : (r : TextInput) → r .«at_start» ≡ true → (c : List ℕ) (cs : List (List ℕ)) →
-      scansChars p o r (c ∷ cs) ≡ outs p o r (unmarked c ++ flatten cs)
-  chunks-first r h c cs = then-outs r c (unmarked c) (unspent r h c) cs (spent-outs (scanNext p o r c) (spent-again r c) cs)
+      scansChars p o r (c ∷ cs) ≡ outs p o r (withoutBom c ++ flatten cs)
+  chunks-first r h c cs = then-outs r c (withoutBom c) (unspent r h c) cs (spent-outs (scanNext p o r c) (spent-again r c) cs)
 
   pub first-ends : (r : TextInput) → r .«at_start» ≡ true → (c : List ℕ) (cs : List (List ℕ)) →
-      scansNext p o r (c ∷ cs) ≡ marked (ends p o r (unmarked c ++ flatten cs)) false (r .count + (length c + length (flatten cs)))
-  first-ends r h c cs = then-ends r c (unmarked c) (unspent r h c) cs (spent-ends (scanNext p o r c) (spent-again r c) cs)
+      scansNext p o r (c ∷ cs) ≡ marked (ends p o r (withoutBom c ++ flatten cs)) false (r .count + (length c + length (flatten cs)))
+  first-ends r h c cs = then-ends r c (withoutBom c) (unspent r h c) cs (spent-ends (scanNext p o r c) (spent-again r c) cs)
 
   pub chunks-first-next : (r : TextInput) → r .«at_start» ≡ true → (c : List ℕ) (cs : List (List ℕ)) →
-      scansNext p o r (c ∷ cs) ≡ ends p o (opened r (length c + length (flatten cs))) (unmarked c ++ flatten cs)
+      scansNext p o r (c ∷ cs) ≡ ends p o (opened r (length c + length (flatten cs))) (withoutBom c ++ flatten cs)
   chunks-first-next r h c cs =
       first-ends r h c cs
-      ∙ sym (ends-marked r false (r .count + (length c + length (flatten cs))) (unmarked c ++ flatten cs))
+      ∙ sym (ends-marked r false (r .count + (length c + length (flatten cs))) (withoutBom c ++ flatten cs))
 
   -- ---- all characters are counted
   pub count-of : (r : TextInput) (cs : List (List ℕ)) → scansNext p o r cs .count ≡ r .count + length (flatten cs)

@@ -14,16 +14,16 @@ use Rattle.unicode.specs.Chars.{isChar, areChars}
 use Rattle.unicode.specs.Utf8.{encodeOf, encodeAll, charsOf}
 use Rattle.unicode.proofs.Kit.{split, both-true, both}
 use Rattle.unicode.proofs.Texts.{decode-encode}
-use Rattle.text_input.specs.Fill.{taken, FillOutcome, fillRefused, filledBytes, fillOf}
+use Rattle.text_input.specs.Fill.{takenChars, FillOutcome, fillRefused, filledBytes, fillOf}
 
-pub taken-first : (free : ℕ) (queue : List ℕ) → taken free queue ≡ take (length (taken free queue)) queue
+pub taken-first : (free : ℕ) (queue : List ℕ) → takenChars free queue ≡ take (length (takenChars free queue)) queue
 taken-first free [] = refl
 taken-first free (c ∷ cs) =
     split (λ (l : List ℕ). l ≡ take (length l) (c ∷ cs)) (ltb free 4) (λ e. refl)
     (λ e. ap (λ (l : List ℕ). c ∷ l) (taken-first (free - length (encodeOf c)) cs))
 
 -- what is taken from characters is characters
-taken-chars : (free : ℕ) (queue : List ℕ) → areChars queue ≡ true → areChars (taken free queue) ≡ true
+taken-chars : (free : ℕ) (queue : List ℕ) → areChars queue ≡ true → areChars (takenChars free queue) ≡ true
 taken-chars free [] h = refl
 taken-chars free (c ∷ cs) h =
     let k = both-true (isChar c) (areChars cs) h in
@@ -40,9 +40,9 @@ refused-decodes queue buf r t n h = let z : _≡_ {A = ℕ} 0 1 = cc in let e : 
 -- the bytes filled, and any others behind them
 accepted-decodes : (queue buf rest : List ℕ) → areChars queue ≡ true →
     Decodes queue
-    (record { numbers = 0 ∷ length (taken (length buf) queue) ∷ length (filledBytes queue buf) ∷ []; bytes = filledBytes queue buf ++ rest })
+    (record { numbers = 0 ∷ length (takenChars (length buf) queue) ∷ length (filledBytes queue buf) ∷ []; bytes = filledBytes queue buf ++ rest })
 accepted-decodes queue buf rest s t n h =
-    let xs = taken (length buf) queue in
+    let xs = takenChars (length buf) queue in
     let a : t ≡ length xs = cc in
     let b : n ≡ length (encodeAll xs) = cc in
     rw (a, b, take-append-seam (encodeAll xs) rest, decode-encode xs (taken-chars (length buf) queue s)) (taken-first (length buf) queue)

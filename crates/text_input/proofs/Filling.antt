@@ -19,10 +19,10 @@ use Rattle.unicode.specs.Utf8.{encodeOf, continuation, encodeAll, withBytes}
 use Rattle.unicode.proofs.Kit.{by-lt, both-true}
 use Rattle.unicode.proofs.Rows.{length-encode}
 use Rattle.text_input.specs.declared.bytes.Filled.the-variants.{Counts}
-use Rattle.text_input.specs.Fill.{taken, zeroed, fillOutcome, filledBytes, fillOf}
+use Rattle.text_input.specs.Fill.{takenChars, zeroed, fillOutcome, filledBytes, fillOf}
 use Rattle.unicode.proofs.Lists.{sets-append, sets-filled}
 
-pub fits : (free : ℕ) (cs : List ℕ) → length (encodeAll (taken free cs)) ≤ free
+pub fits : (free : ℕ) (cs : List ℕ) → length (encodeAll (takenChars free cs)) ≤ free
 fits free [] = omega arith
 fits free (c ∷ cs) =
     by-lt free 4 (λ h. simp (lt-ltb free 4 h) (omega arith))
@@ -63,7 +63,7 @@ module _ (queue buf₀ : List ℕ) where
   -- so many characters taken, so many bytes filled, and these bytes
   abbrev pub Encoded : ℕ → ℕ → List ℕ → Type 0
   Encoded i k buf =
-      (i ≡ length (taken (length buf₀) queue))
+      (i ≡ length (takenChars (length buf₀) queue))
       × ((k ≡ length (filledBytes queue buf₀)) × (buf ≡ sets buf₀ 0 (filledBytes queue buf₀)))
 
   pub record Encoding (buf : List ℕ) (i k : ℕ) : Type 0 where
@@ -71,16 +71,16 @@ module _ (queue buf₀ : List ℕ) where
     pub inside : k ≤ length buf₀
     pub same : length buf ≡ length buf₀
     pub valid : areChars (drop i queue) ≡ true
-    pub count : i + length (taken (length buf₀ - k) (drop i queue)) ≡ length (taken (length buf₀) queue)
-    pub place : k + length (encodeAll (taken (length buf₀ - k) (drop i queue))) ≡ length (filledBytes queue buf₀)
-    pub stored : sets buf k (encodeAll (taken (length buf₀ - k) (drop i queue))) ≡ sets buf₀ 0 (filledBytes queue buf₀)
+    pub count : i + length (takenChars (length buf₀ - k) (drop i queue)) ≡ length (takenChars (length buf₀) queue)
+    pub place : k + length (encodeAll (takenChars (length buf₀ - k) (drop i queue))) ≡ length (filledBytes queue buf₀)
+    pub stored : sets buf k (encodeAll (takenChars (length buf₀ - k) (drop i queue))) ≡ sets buf₀ 0 (filledBytes queue buf₀)
 
   pub encode-begin : areChars queue ≡ true → Encoding buf₀ 0 0
   encode-begin s =
       record { low = omega arith; inside = omega arith; same = refl; valid = s; count = rw (sub-zero, zero-add); place = rw (sub-zero, zero-add); stored = rw sub-zero }
 
   module _ (buf : List ℕ) (i k : ℕ) (g : Encoding buf i k) where
-    done : taken (length buf₀ - k) (drop i queue) ≡ [] → Encoded i k buf
+    done : takenChars (length buf₀ - k) (drop i queue) ≡ [] → Encoded i k buf
     done e = (omega (arith, simp e at (g .count)), (omega (arith, simp e at (g .place)), simp e at (g .stored)))
 
     pub encode-ended : length queue ≤ i → Encoded i k buf
@@ -99,7 +99,7 @@ module _ (queue buf₀ : List ℕ) where
       pub encode-asks : (isChar c ≡ true) × (k + length (encodeOf c) ≤ length buf)
       encode-asks = (char .0, omega (arith, length-encode c .1))
 
-      turn : taken (length buf₀ - k) (drop i queue) ≡ c ∷ taken (length buf₀ - (k + length (encodeOf c))) (drop (i + 1) queue)
+      turn : takenChars (length buf₀ - k) (drop i queue) ≡ c ∷ takenChars (length buf₀ - (k + length (encodeOf c))) (drop (i + 1) queue)
       turn =
           let r : length buf₀ - k - length (encodeOf c) ≡ length buf₀ - (k + length (encodeOf c)) = omega arith in
           rw (add-one, drop-cons queue i 0 more, le-ltb (length buf₀ - k) 4 (rw (g .same) at room), r)
@@ -114,7 +114,7 @@ module _ (queue buf₀ : List ℕ) where
             valid = char .1;
             count = omega (arith, simp turn at (g .count));
             place = omega (arith, simp (turn, length-append) at (g .place));
-            stored = sym (sets-append (encodeOf c) (encodeAll (taken (length buf₀ - (k + length (encodeOf c))) (drop (i + 1) queue))) buf k) ∙ rw turn at (g .stored);
+            stored = sym (sets-append (encodeOf c) (encodeAll (takenChars (length buf₀ - (k + length (encodeOf c))) (drop (i + 1) queue))) buf k) ∙ rw turn at (g .stored);
           })
 
   -- ---- both

@@ -1,6 +1,6 @@
 -- Laws on the definitions by cases that the steps' contracts cite. Assumes nothing.
 --     at-state                  `leaveOf` at a state that is known by an equation
---     last-chars                the last of an image's characters
+--     last-chars                the last of a replacement's characters is the same after any other
 --     last-append, last-three   the last character after two parts, after three
 use Prim.Native.Nat.{ℕ}
 use mathlib.Core.Path.{_≡_, refl, _∙_}
@@ -10,12 +10,12 @@ use Rattle.replace.specs.declared.Replaced.the-variants.{One, Two, Three}
 use Rattle.replace.specs.Replace.{chars}
 use Rattle.text_input.specs.declared.State.{State}
 use Rattle.text_input.specs.declared.step.Left.{Left}
-use Rattle.text_input.specs.Step.{leaveOf, lastOf, lastChar}
+use Rattle.text_input.specs.Step.{leaveOf, lastOf}
 
 pub at-state : (s t : State) (c : ℕ) (z : Left) → s ≡ t → z ≡ leaveOf t c → z ≡ leaveOf s c
 at-state s t c z e h = rw e h
 
-pub last-chars : (l : ℕ) (r : Replaced) → lastChar r ≡ lastOf l (chars r)
+pub last-chars : (l : ℕ) (r : Replaced) → lastOf 0 (chars r) ≡ lastOf l (chars r)
 last-chars l (One a) = refl
 last-chars l (Two a b) = refl
 last-chars l (Three a b c) = refl

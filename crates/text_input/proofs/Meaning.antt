@@ -15,7 +15,7 @@ use Rattle.replace.specs.declared.Replaced.{Replaced}
 use Rattle.replace.specs.declared.Replaced.the-variants.{One, Two, Three}
 use Rattle.replace.specs.Replace.{chars, replaceOf}
 use Rattle.page.specs.Page.{accepted}
-use Rattle.text_utils.specs.Classes.{basicTextStart, basicTextEnd}
+use Rattle.text_utils.specs.Classes.{basicTextStart}
 use Rattle.text_input.specs.declared.State.{State}
 use Rattle.text_input.specs.declared.State.the-variants.{Ground}
 use Rattle.text_input.specs.declared.Options.{Options}
@@ -32,10 +32,10 @@ use Rattle.text_input.specs.declared.step.Step.{Step}
 use Rattle.text_input.specs.Sets.{newlineChar, optionalLine}
 use Rattle.text_input.specs.Step.{outChars, leadChars, imageChars, lastOf, guardOf, madeOf, metOf, leftOf, leaveOf, meetOf}
 use Rattle.text_input.specs.Step.{stepOf}
-use Rattle.text_input.specs.Scan.{outs, ends, finishChars, finishNext, afterLine}
-use Rattle.text_input.specs.Pieces.{isLine, lineChar, Piece, join, Longest, EachLongest, Reading, pieceImage, image}
+use Rattle.text_input.specs.Scan.{outs, ends, endMarkOf, newlineOf, finishChars, finishNext, afterLine}
+use Rattle.text_input.specs.Pieces.{isLine, lineChar, Piece, join, LongestPiece, EachLongest, Reading, pieceImage, image}
 use Rattle.text_input.specs.Pieces.{startMark}
-use Rattle.text_input.specs.Streams.{owedAfter, endMarkAfter}
+use Rattle.text_input.specs.Streams.{owedAfter}
 use Rattle.text_input.proofs.Kit.{last-append}
 use Rattle.text_input.proofs.Cut.{Inner, cr, ff, esc, csiStart, csi, osc, linux, stateOf, kindOf, cut}
 use Rattle.text_input.proofs.Unique.{Class, opens, single, class, kindC, tailOf, longest-of, first-unique, no-piece}
@@ -135,7 +135,7 @@ module _ (p : List ℕ) (o : Options) (eof start : Bool) (count : ℕ) where
   told-piece x e n t = then (isLine (x .kind)) (pieceImage (x .kind) (x .text) t) e n t
 
   -- the piece of the reading is the one that the scanner goes over
-  over-piece : accepted p ≡ true → (x : Piece) (w t : List ℕ) → x .text ≡ w → Longest o x t → (b e : Bool) (n : ℕ) →
+  over-piece : accepted p ≡ true → (x : Piece) (w t : List ℕ) → x .text ≡ w → LongestPiece o x t → (b e : Bool) (n : ℕ) →
       from (w ++ t) (Ground b) e n ≡ told-piece x e n t
   unfolding told-piece
   over-piece good x [] t h l b e n = absurd (no-piece o (x .kind) [] [] (rw h at (l .fits)) refl)
@@ -152,19 +152,11 @@ module _ (p : List ℕ) (o : Options) (eof start : Bool) (count : ℕ) where
   -- ---- over all pieces, and then the finish
   -- what the finish adds
   closing : Bool → ℕ → List ℕ
-  closing owed n = cond (basicTextEnd n) [] (0x34F ∷ []) ++ cond (eof && owed) (0x0A ∷ []) []
+  closing owed n = leadChars (endMarkOf n) ++ leadChars (newlineOf (eof && owed))
 
   closing-is : (b e : Bool) (n : ℕ) → finishChars (at p o eof start count (Ground b) e n) eof ≡ closing (not b) n
   unfolding closing
-  closing-is b e n = ap₂ (λ (u v : List ℕ). u ++ v) (marks (basicTextEnd n)) (lines (eof && not b))
-    where
-      marks : (x : Bool) → leadChars (cond x Nothing (Char 0x34F)) ≡ cond x [] (0x34F ∷ [])
-      marks true = refl
-      marks false = refl
-
-      lines : (x : Bool) → leadChars (cond x (Char 0x0A) Nothing) ≡ cond x (0x0A ∷ []) []
-      lines true = refl
-      lines false = refl
+  closing-is b e n = refl
 
   pieces-by : accepted p ≡ true → (xs : List Piece) → EachLongest o xs → (b e : Bool) (n : ℕ) →
       from (join xs) (Ground b) e n
@@ -236,14 +228,14 @@ ends-count p o r (c ∷ t) = ends-count p o (stepOf p o r c .next) t ∙ step-ke
 unfoldable pub sectionAfter : List ℕ → Bool → ℕ → Bool → List Piece → Bool → List ℕ
 sectionAfter p expect last owed xs eof =
     cond expect (startMark p (image xs)) []
-    ++ (image xs ++ (endMarkAfter last (image xs) ++ cond (eof && owedAfter owed xs) (0x0A ∷ []) []))
+    ++ (image xs ++ (leadChars (endMarkOf (lastOf last (image xs))) ++ leadChars (newlineOf (eof && owedAfter owed xs))))
 
 module _ (p : List ℕ) (good : accepted p ≡ true) (o : Options) (r : TextInput) (b : Bool) (ground : r .state ≡ Ground b) where
   section-closed : (t : List ℕ) (xs : List Piece) → Reading o t xs → (eof : Bool) →
       _≡_ {A = Closed}
       (record { out = outs p o r t ++ finishChars (ends p o r t) eof; line = afterLine (ends p o r t .state) })
       (record { out = sectionAfter p (r .«expect_starter») (r .last) (not b) xs eof; line = not (owedAfter (not b) xs) })
-  unfolding sectionAfter endMarkAfter
+  unfolding sectionAfter
   section-closed t xs read eof =
       let start = r .«at_start» in
       let count = r .count in

@@ -8,7 +8,7 @@ use mathlib.Core.List.{List, [], _∷_}
 use lib.Dec.{eqb}
 use Rattle.check_char.specs.Check.{all}
 use Rattle.text_input.specs.declared.Options.{Options}
-use Rattle.text_input.specs.Scan.{mark}
+use Rattle.text_input.specs.Scan.{leadingBom}
 use Rattle.text_input.specs.Sets.{parameter, final, stringEnd, upTo7F, newlineChar, optionalLine}
 
 abbrev pub options : Bool → Bool → Options
@@ -53,7 +53,7 @@ table =
       outside = 0x84 ∷ 0x86 ∷ 0x2027 ∷ 0x202A ∷ [];
     }
     -- "U+FEFF is dropped", which scans and texts share too
-    ∷ record { set = λ c. eqb (mark (c ∷ [])) 1; inside = 0xFEFF ∷ []; outside = 0xFEFE ∷ 0xFF00 ∷ 0xFFFE ∷ [] }
+    ∷ record { set = λ c. eqb (leadingBom (c ∷ [])) 1; inside = 0xFEFF ∷ []; outside = 0xFEFE ∷ 0xFF00 ∷ 0xFFFE ∷ [] }
     ∷ []
 
 abbrev pub pinned : List Row → Bool

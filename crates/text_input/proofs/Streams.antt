@@ -15,15 +15,17 @@ use mathlib.Core.Path.{_≡_, refl, ap, ap₂, sym, _∙_}
 use native.Mathlib.Omega.{arith}
 use lib.ListN.{length, length-append}
 use Rattle.page.specs.Page.{accepted}
+use Rattle.text_utils.specs.Classes.{basicTextEnd}
 use Rattle.text_utils.proofs.Classes.{end-newline}
 use Rattle.text_input.specs.declared.State.the-variants.{Ground}
 use Rattle.text_input.specs.declared.Options.{Options}
 use Rattle.text_input.specs.declared.TextInput.{TextInput}
-use Rattle.text_input.specs.Step.{lastOf}
-use Rattle.text_input.specs.Scan.{fresh, outs, ends, finishChars, finishNext}
+use Rattle.text_input.specs.declared.step.Lead.the-variants.{Nothing, Char}
+use Rattle.text_input.specs.Step.{leadChars, lastOf}
+use Rattle.text_input.specs.Scan.{fresh, outs, ends, endMarkOf, finishChars, finishNext}
 use Rattle.text_input.specs.Pieces.{Piece, Reading, isLine, image, endMark, lastNewline, cleaned}
-use Rattle.text_input.specs.Streams.{Section, scansChars, scansNext, streamChars, streamNext, streamText, unmarked, unmarkedFirst, unmarkedStream}
-use Rattle.text_input.specs.Streams.{Readings, owedAfter, endMarkAfter, sectionOf, streamOf}
+use Rattle.text_input.specs.Streams.{Section, scansChars, scansNext, streamChars, streamNext, streamText, withoutBom, withoutBomFirst, withoutBomStream}
+use Rattle.text_input.specs.Streams.{Readings, owedAfter, sectionOf, streamOf}
 use Rattle.text_input.proofs.Meaning.{sectionAfter, section-chars, section-next}
 use Rattle.text_input.proofs.Chunks.{marked, spent-outs, spent-ends, chunks-first, first-ends, count-of}
 
@@ -39,10 +41,18 @@ unfolding sectionAfter sectionOf
 section-is p n owed xs eof = refl
 
 -- a whole text's
-endMark-is : (w : List ℕ) → endMarkAfter 0x0A w ≡ endMark w
-unfolding endMarkAfter endMark
+joiner-lead : (b : Bool) → leadChars (cond b Nothing (Char 0x34F)) ≡ cond b [] (0x34F ∷ [])
+joiner-lead true = refl
+joiner-lead false = refl
+
+newline-lead : (b : Bool) → leadChars (cond b (Char 0x0A) Nothing) ≡ cond b (0x0A ∷ []) []
+newline-lead true = refl
+newline-lead false = refl
+
+endMark-is : (w : List ℕ) → leadChars (endMarkOf (lastOf 0x0A w)) ≡ endMark w
+unfolding endMark
 endMark-is [] = rw end-newline
-endMark-is (x ∷ []) = refl
+endMark-is (x ∷ []) = joiner-lead (basicTextEnd x)
 endMark-is (x ∷ y ∷ w) = endMark-is (y ∷ w)
 
 cond-not : (b : Bool) (u v : List ℕ) → cond (not b) u v ≡ cond b v u
@@ -60,7 +70,7 @@ lastNewline-is (x ∷ xs) = newline-is false x xs
 
 whole-is : (p : List ℕ) (xs : List Piece) → sectionOf p 0x0A false xs true ≡ cleaned p xs
 unfolding sectionOf cleaned
-whole-is p xs = rw (endMark-is (image xs), lastNewline-is xs)
+whole-is p xs = rw (endMark-is (image xs), newline-lead (owedAfter false xs), lastNewline-is xs)
 
 module _ (p : List ℕ) (good : accepted p ≡ true) (o : Options) where
   -- ---- one section: the chunks cs come to a run over the text t
@@ -77,7 +87,7 @@ module _ (p : List ℕ) (good : accepted p ≡ true) (o : Options) where
   comes-spent r h cs = record { chars = spent-outs p o r h cs; next = spent-ends p o r h cs }
 
   comes-first : (r : TextInput) → r .«at_start» ≡ true → (c : List ℕ) (cs : List (List ℕ)) →
-      Comes r (c ∷ cs) (unmarked c ++ flatten cs) false (r .count + (length c + length (flatten cs)))
+      Comes r (c ∷ cs) (withoutBom c ++ flatten cs) false (r .count + (length c + length (flatten cs)))
   comes-first r h c cs = record { chars = chunks-first p o r h c cs; next = first-ends p o r h c cs }
 
   module _ (b a : Bool) (n k : ℕ) (cs : List (List ℕ)) (t : List ℕ) (start : Bool) (count : ℕ)
@@ -97,12 +107,12 @@ module _ (p : List ℕ) (good : accepted p ≡ true) (o : Options) where
         ∙ ap (λ w. ready (eof || not (owedAfter (not b) xs)) start (lastOf n w) count) (section-is p n (not b) xs eof)
 
   -- ---- A WHOLE TEXT, in any chunks, finished once as end of file
-  pub whole : (cs : List (List ℕ)) (xs : List Piece) → Reading o (flatten (unmarkedFirst cs)) xs →
+  pub whole : (cs : List (List ℕ)) (xs : List Piece) → Reading o (flatten (withoutBomFirst cs)) xs →
       scansChars p o fresh cs ++ finishChars (scansNext p o fresh cs) true ≡ cleaned p xs
   unfolding flatten
   whole [] xs read = section-step true true 0x0A 0 [] [] true 0 (comes-none fresh) xs read true ∙ whole-is p xs
   whole (c ∷ cs) xs read =
-      section-step true true 0x0A 0 (c ∷ cs) (unmarked c ++ flatten cs) false (0 + (length c + length (flatten cs)))
+      section-step true true 0x0A 0 (c ∷ cs) (withoutBom c ++ flatten cs) false (0 + (length c + length (flatten cs)))
       (comes-first fresh refl c cs) xs read true
       ∙ whole-is p xs
 
@@ -147,32 +157,32 @@ module _ (p : List ℕ) (good : accepted p ≡ true) (o : Options) where
 
   -- from one that has had none: its first chunk may come after a finish
   start-by : (cs : List (List ℕ)) (eof : Bool) (ss : List Section) →
-      ((xss : List (List Piece)) → Readings o (unmarkedStream ss) xss → (line : Bool) (last count : ℕ) →
-      streamChars p o (ready line true last count) ss ≡ streamOf p last (not line) (unmarkedStream ss) xss) →
-      (xss : List (List Piece)) → Readings o (unmarkedStream (record { chunks = cs; eof = eof } ∷ ss)) xss →
+      ((xss : List (List Piece)) → Readings o (withoutBomStream ss) xss → (line : Bool) (last count : ℕ) →
+      streamChars p o (ready line true last count) ss ≡ streamOf p last (not line) (withoutBomStream ss) xss) →
+      (xss : List (List Piece)) → Readings o (withoutBomStream (record { chunks = cs; eof = eof } ∷ ss)) xss →
       (line : Bool) (last count : ℕ) →
       streamChars p o (ready line true last count) (record { chunks = cs; eof = eof } ∷ ss)
-      ≡ streamOf p last (not line) (unmarkedStream (record { chunks = cs; eof = eof } ∷ ss)) xss
+      ≡ streamOf p last (not line) (withoutBomStream (record { chunks = cs; eof = eof } ∷ ss)) xss
   unfolding flatten
   start-by [] eof ss ih [] read line last count = absurd read
   start-by [] eof ss ih (xs ∷ xss) read line last count =
       stream-step line true last count [] [] true count (comes-none (ready line true last count)) xs (read .0) eof
-      ss (unmarkedStream ss) xss (λ line last. ih xss (read .1) line last count) []
+      ss (withoutBomStream ss) xss (λ line last. ih xss (read .1) line last count) []
   start-by (c ∷ cs) eof ss ih [] read line last count = absurd read
   start-by (c ∷ cs) eof ss ih (xs ∷ xss) read line last count =
       let k = count + (length c + length (flatten cs)) in
-      stream-step line true last count (c ∷ cs) (unmarked c ++ flatten cs) false k
+      stream-step line true last count (c ∷ cs) (withoutBom c ++ flatten cs) false k
       (comes-first (ready line true last count) refl c cs) xs (read .0) eof
-      ss ss xss (λ line last. stream-from ss xss (read .1) line last k) (unmarked c ∷ cs)
+      ss ss xss (λ line last. stream-from ss xss (read .1) line last k) (withoutBom c ∷ cs)
 
-  pub stream-start : (ss : List Section) (xss : List (List Piece)) → Readings o (unmarkedStream ss) xss → (line : Bool) (last count : ℕ) →
-      streamChars p o (ready line true last count) ss ≡ streamOf p last (not line) (unmarkedStream ss) xss
+  pub stream-start : (ss : List Section) (xss : List (List Piece)) → Readings o (withoutBomStream ss) xss → (line : Bool) (last count : ℕ) →
+      streamChars p o (ready line true last count) ss ≡ streamOf p last (not line) (withoutBomStream ss) xss
   stream-start [] xss read line last count = unfold streamChars streamOf in refl
   stream-start (s ∷ ss) xss read line last count =
       start-by (s .chunks) (s .eof) ss (λ yss g. stream-start ss yss g) xss read line last count
 
-  pub stream : (ss : List Section) (xss : List (List Piece)) → Readings o (unmarkedStream ss) xss →
-      streamChars p o fresh ss ≡ streamOf p 0x0A false (unmarkedStream ss) xss
+  pub stream : (ss : List Section) (xss : List (List Piece)) → Readings o (withoutBomStream ss) xss →
+      streamChars p o fresh ss ≡ streamOf p 0x0A false (withoutBomStream ss) xss
   stream ss xss read = stream-start ss xss read true 0x0A 0
 
 -- ---- THE COUNT: the characters of all chunks, on every page and record

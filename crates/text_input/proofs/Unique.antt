@@ -19,7 +19,7 @@ use native.Mathlib.Omega.{arith}
 use Rattle.text_input.specs.declared.Options.{Options}
 use Rattle.text_input.specs.Sets.{newlineChar, optionalLine}
 use Rattle.text_input.specs.Pieces.{Kind, lineEnd, pageRun, escape, other, lineChar, LineEnd, PageRun, Escape, Other, Allowed}
-use Rattle.text_input.specs.Pieces.{Piece, join, Longest, EachLongest, Reading}
+use Rattle.text_input.specs.Pieces.{Piece, join, LongestPiece, EachLongest, Reading}
 use Rattle.text_input.proofs.Recognise.{nothing, false-true, and-left, and-right, no-more, feeds, afterEsc, afterBracket}
 use Rattle.text_input.proofs.Recognise.{afterLinux, runs-of, feeds-all, bracket-of, page-of, escape-of}
 use Rattle.text_input.proofs.Cut.{Inner, cr, ff, esc, kindOf, tail, cut}
@@ -135,7 +135,7 @@ most-first o c t k j (x ∷ q) r f h =
     suc-le-suc (k .most q r (rw (head-eq-of-cons-eq h) at g) (tail-eq-of-cons-eq h ∙ k .joined))
 
 pub longest-of : (o : Options) (c : ℕ) (t : List ℕ) (k : Tail (class o c) t) →
-    Longest o (record { kind = kindC (class o c); text = c ∷ k .taken }) (k .rest)
+    LongestPiece o (record { kind = kindC (class o c); text = c ∷ k .taken }) (k .rest)
 longest-of o c t k =
     record {
       fits = built o c (k .taken) (k .fits);
@@ -183,7 +183,7 @@ split-left (c ∷ a) (d ∷ b) x y l h =
     let r = split-left a b x y (omega arith) (tail-eq-of-cons-eq h) in cc
 
 pub first-unique : (o : Options) (a b : Piece) (x y : List ℕ) →
-    Longest o a x → Longest o b y → a .text ++ x ≡ b .text ++ y → a ≡ b
+    LongestPiece o a x → LongestPiece o b y → a .text ++ x ≡ b .text ++ y → a ≡ b
 first-unique o a b x y f g h =
     let u = f .most (b .kind) (b .text) y (g .fits) (sym h) in
     let v = g .most (a .kind) (a .text) x (f .fits) h in

@@ -1,5 +1,6 @@
 -- Filling bytes: "queue characters are encoded while at least 4 bytes are free; then continuation bytes (80..BF) from there on are
--- zeroed up to the first other byte. The characters taken and the bytes filled are both returned. Order: 7, 1." Assumes nothing.
+-- zeroed up to the first other byte. The characters taken and the bytes filled are both returned. Order: 7, 1."
+-- Document 01, "A stream finishes" and "Refused ..". Assumes nothing.
 use Prim.Native.Nat.{ℕ, _-_}
 use mathlib.Core.Bool.{cond}
 use mathlib.Core.List.{List, [], _∷_, _++_}
@@ -11,9 +12,9 @@ use Rattle.text_input.specs.declared.bytes.Filled.{Filled}
 use Rattle.text_input.specs.declared.bytes.Filled.the-variants.{Counts, Refused}
 
 -- the characters that are encoded, with so many bytes free
-abbrev pub taken : ℕ → List ℕ → List ℕ
-taken free [] = []
-taken free (c ∷ cs) = cond (ltb free 4) [] (c ∷ taken (free - length (encodeOf c)) cs)
+abbrev pub takenChars : ℕ → List ℕ → List ℕ
+takenChars free [] = []
+takenChars free (c ∷ cs) = cond (ltb free 4) [] (c ∷ takenChars (free - length (encodeOf c)) cs)
 
 -- "continuation bytes (80..BF) from there on are zeroed up to the first other byte"
 abbrev pub zeroed : List ℕ → List ℕ
@@ -40,7 +41,7 @@ fillRefused n buf = record { numbers = n ∷ []; bytes = buf }
 
 -- the bytes filled
 abbrev pub filledBytes : List ℕ → List ℕ → List ℕ
-filledBytes qs buf = encodeAll (taken (length buf) qs)
+filledBytes qs buf = encodeAll (takenChars (length buf) qs)
 
 -- the queue qs into the buffer buf: "7 a byte buffer under 136", then 1
 unfoldable pub fillOf : List ℕ → List ℕ → FillOutcome
@@ -48,7 +49,7 @@ fillOf qs buf =
     cond (ltb (length buf) 136) (fillRefused 7 buf)
     (cond (areChars qs)
     (record {
-      numbers = 0 ∷ length (taken (length buf) qs) ∷ length (filledBytes qs buf) ∷ [];
+      numbers = 0 ∷ length (takenChars (length buf) qs) ∷ length (filledBytes qs buf) ∷ [];
       bytes = filledBytes qs buf ++ zeroed (drop (length (filledBytes qs buf)) buf);
     })
     (fillRefused 1 buf))

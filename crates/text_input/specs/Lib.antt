@@ -1,6 +1,6 @@
--- What a reader must believe of this crate, in the order of document 01: one character and a chunk as text_input.rs has them, and
--- the calls with their refusals; the pieces of a text, its reading and its image; streams of chunks and finishes; filling bytes;
--- the cases checked by hand.
+-- What a reader must believe of this crate. First the program's calls: one character and a chunk as text_input.rs has them, a scan
+-- and a finish with their refusals. Then the pieces of a text, its reading and its image, and streams of chunks and finishes; filling
+-- bytes; the cases checked by hand. Document 01 has the finish behind the pieces.
 pub mod Sets
 pub mod Step
 pub mod Scan

@@ -51,7 +51,7 @@ noBracket (c ∷ q) = not (eqb c 0x5B)
 --     or one of 40..7E other than `[` and `]`, or 18;                                                  two
 --     or, none of these fitting, nothing."                                                             alone
 -- "if it stands there", "all up to the first", "to the end if none of the three comes" and "none of these fitting" say that the
--- longest is taken; `Longest` says it for every piece, so these are the lengths among which it chooses. A string's characters leave
+-- longest is taken; `LongestPiece` says it for every piece, so these are the lengths among which it chooses. A string's characters leave
 -- out 1B, so that it ends before one.
 pub data Escape : List ℕ → Type 0 where
   linux : Escape (0x1B ∷ 0x5B ∷ 0x5B ∷ [])
@@ -81,13 +81,13 @@ join [] = []
 join (x ∷ xs) = x .text ++ join xs
 
 -- the piece x, which `rest` follows, is allowed, and no piece that is allowed at its place is longer
-pub record Longest (o : Options) (x : Piece) (rest : List ℕ) : Type 0 where
+pub record LongestPiece (o : Options) (x : Piece) (rest : List ℕ) : Type 0 where
   pub fits : Allowed o (x .kind) (x .text)
   pub most : (k : Kind) (w r : List ℕ) → Allowed o k w → w ++ r ≡ x .text ++ rest → length w ≤ length (x .text)
 
 abbrev pub EachLongest : Options → List Piece → Type 0
 EachLongest o [] = Unit {0}
-EachLongest o (x ∷ xs) = Longest o x (join xs) × EachLongest o xs
+EachLongest o (x ∷ xs) = LongestPiece o x (join xs) × EachLongest o xs
 
 pub record Reading (o : Options) (text : List ℕ) (xs : List Piece) : Type 0 where
   pub joined : join xs ≡ text

@@ -81,13 +81,13 @@ abbrev pub scanRefusal : TextInput → List ℕ → List ℕ → ℕ → ℕ
 scanRefusal r p chunk room = refusalOf (r .count) (accepted p) (areChars chunk) (length chunk) room
 
 -- how many characters a leading FEFF is
-abbrev pub mark : List ℕ → ℕ
-mark [] = 0
-mark (c ∷ cs) = cond (eqb c 0xFEFF) 1 0
+abbrev pub leadingBom : List ℕ → ℕ
+leadingBom [] = 0
+leadingBom (c ∷ cs) = cond (eqb c 0xFEFF) 1 0
 
 -- "U+FEFF is dropped only as the first character of the first call."
 abbrev pub skipped : TextInput → List ℕ → ℕ
-skipped r chunk = cond (r .«at_start») (mark chunk) 0
+skipped r chunk = cond (r .«at_start») (leadingBom chunk) 0
 
 -- the record of an accepted call on n characters before the first of them: the chance is spent, also by an empty chunk, and all
 -- n are counted, "dropped ones included"

@@ -1,5 +1,9 @@
 -- One character in one state, as the `match` of `process_raw_string` in text_input.rs has it. Where the Rust goes round its inner
--- loop, with the state set to `Ground`, the ground state takes the character here. Assumes nothing.
+-- loop, with the state set to `Ground`, the ground state takes the character here. Document 01, "A chunk comes in" and "Pieces of a
+-- text". Assumes nothing.
+-- The states say what is pending. `Ground b`: nothing, and b says that a finish owes no 0A. `Cr`: 0D. `Ff`: a page run. The others an
+-- escape: `Esc` after 1B, `CsiStart` just after 1B `[`, `Csi` further on in it, `Osc` in a string begun by 1B `]`, `Linux` after
+-- 1B `[` `[`.
 use Prim.Native.Nat.{ℕ}
 use mathlib.Core.Bool.{Bool, true, false, cond}
 use mathlib.Core.List.{List, [], _∷_, _++_}
@@ -24,10 +28,12 @@ use Rattle.text_input.specs.declared.step.Step.{Step}
 use Rattle.text_input.specs.Sets.{parameter, final, stringEnd, upTo7F, newlineChar, optionalLine}
 
 -- ---- what a step appends: a lead and an image
+-- the lead: no character, or one, which is given for what was pending or is the 34F that guards the image
 abbrev pub leadChars : Lead → List ℕ
 leadChars Nothing = []
 leadChars (Char a) = a ∷ []
 
+-- the image, which the character itself gives: empty, or the characters of a replacement
 abbrev pub imageChars : Image → List ℕ
 imageChars Empty = []
 imageChars (Chars r) = chars r
@@ -45,12 +51,13 @@ firstChar (One a) = a
 firstChar (Two a b) = a
 firstChar (Three a b c) = a
 
-abbrev pub lastChar : Replaced → ℕ
-lastChar (One a) = a
-lastChar (Two a b) = b
-lastChar (Three a b c) = c
-
 -- ---- what a character does to what is pending before it
+--     Part s     it gives nothing and leaves the state s: it is part of what is pending, or the 1B at which one escape ends and the
+--                next begins
+--     Newline    it is the 0A of 0D 0A
+--     Goes       nothing is pending, or an escape that ends before it and gives nothing; the ground state takes it
+--     After a    a is given for what was pending; then the ground state takes it
+--     Dropped    a page run before 0D or 0A gives nothing; then the ground state takes it
 -- `State::Esc`
 abbrev pub escLeave : ℕ → Left
 escLeave c =
@@ -71,11 +78,14 @@ leaveOf Osc c = cond (stringEnd c) (Part (Ground false)) (cond (eqb c 0x1B) (Par
 leaveOf Linux c = cond (upTo7F c) (Part (Ground false)) Goes
 
 -- ---- what the ground state does with a character
+--     Line       it ends a line: its image is 0A
+--     Opens s    it gives nothing and leaves the state s, in which it is pending
+--     Other      its image is its replacement
 unfoldable pub meetOf : Options → ℕ → Met
 meetOf o c =
     cond (eqb c 0x0A) Line (cond (eqb c 0x0D) (Opens Cr) (cond (eqb c 0x0C) (Opens Ff) (cond (eqb c 0x1B) (Opens Esc) (cond (optionalLine o c) Line Other))))
 
--- "Prepend a CGJ if needed to guard a non-starter"
+-- "Prepend a CGJ if needed to guard a non-starter": the lead of an image. Where a start is expected, none was there before.
 abbrev pub guardOf : List ℕ → Lead → Bool → Replaced → Lead
 guardOf p lead expect image = cond expect (cond (basicTextStart p (firstChar image)) lead (Char 0x34F)) lead
 

@@ -1,14 +1,14 @@
 -- Streams of accepted calls: chunks and finishes, and what they come to in terms of the pieces. Document 01, "A stream finishes".
--- Assumes nothing.
+-- It states what each finish adds, a push too, where a stream has any number of them. Demand 3 has one finish and refused calls in
+-- between: the list of calls of `demand`, specs/Calls.antt, has these, with each call's page, options and places. Assumes nothing.
 use Prim.Native.Nat.{ℕ}
-use mathlib.Core.Bool.{Bool, cond, not, _&&_}
+use mathlib.Core.Bool.{Bool, true, false, cond, not, _&&_}
 use mathlib.Core.List.{List, [], _∷_, _++_, flatten}
 use lib.ListN.{drop}
-use Rattle.text_utils.specs.Classes.{basicTextEnd}
 use Rattle.text_input.specs.declared.Options.{Options}
 use Rattle.text_input.specs.declared.TextInput.{TextInput}
-use Rattle.text_input.specs.Step.{lastOf}
-use Rattle.text_input.specs.Scan.{mark, scanChars, scanNext, finishChars, finishNext}
+use Rattle.text_input.specs.Step.{leadChars, lastOf}
+use Rattle.text_input.specs.Scan.{leadingBom, scanChars, scanNext, endMarkOf, newlineOf, finishChars, finishNext}
 use Rattle.text_input.specs.Pieces.{Piece, Reading, image, startMark, isLine}
 
 -- ---- the calls
@@ -45,24 +45,24 @@ streamText [] = []
 streamText (s ∷ ss) = flatten (s .chunks) ++ streamText ss
 
 -- the chunk without a U+FEFF that begins it
-abbrev pub unmarked : List ℕ → List ℕ
-unmarked chunk = drop (mark chunk) chunk
+abbrev pub withoutBom : List ℕ → List ℕ
+withoutBom chunk = drop (leadingBom chunk) chunk
 
--- "U+FEFF is dropped only as the first character of the first call": the first chunk loses its mark, and no other
-abbrev pub unmarkedFirst : List (List ℕ) → List (List ℕ)
-unmarkedFirst [] = []
-unmarkedFirst (c ∷ cs) = unmarked c ∷ cs
+-- "U+FEFF is dropped only as the first character of the first call": the first chunk loses it, and no other
+abbrev pub withoutBomFirst : List (List ℕ) → List (List ℕ)
+withoutBomFirst [] = []
+withoutBomFirst (c ∷ cs) = withoutBom c ∷ cs
 
--- the same in a stream, whose first chunk may come after a finish: "A finish spends no chance to drop U+FEFF". By the chunks of the
--- first section, what follows it, and what follows it where the chance is still there.
-abbrev pub unmarkedBy : List (List ℕ) → Bool → List Section → List Section → List Section
-unmarkedBy [] eof ss rest = record { chunks = []; eof = eof } ∷ rest
-unmarkedBy (c ∷ cs) eof ss rest = record { chunks = unmarked c ∷ cs; eof = eof } ∷ ss
+abbrev pub noChunk : List (List ℕ) → Bool
+noChunk [] = true
+noChunk (c ∷ cs) = false
 
--- the stream's first chunk loses its mark, and no other
-abbrev pub unmarkedStream : List Section → List Section
-unmarkedStream [] = []
-unmarkedStream (s ∷ ss) = unmarkedBy (s .chunks) (s .eof) ss (unmarkedStream ss)
+-- the same in a stream, whose first chunk may come after a finish: "A finish spends no chance to drop U+FEFF", so a section with no
+-- chunk leaves the chance to the next
+abbrev pub withoutBomStream : List Section → List Section
+withoutBomStream [] = []
+withoutBomStream (s ∷ ss) =
+    record { chunks = withoutBomFirst (s .chunks); eof = s .eof } ∷ cond (noChunk (s .chunks)) (withoutBomStream ss) ss
 
 -- ---- what it comes to
 -- a reading for each section's text
@@ -77,14 +77,12 @@ unfoldable pub owedAfter : Bool → List Piece → Bool
 owedAfter owed [] = owed
 owedAfter owed (x ∷ xs) = owedAfter (not (isLine (x .kind))) xs
 
--- "If the last character ever appended is no end, 34F follows."
-unfoldable pub endMarkAfter : ℕ → List ℕ → List ℕ
-endMarkAfter last w = cond (basicTextEnd (lastOf last w)) [] (0x34F ∷ [])
-
--- a section's part of the queue: its image with 34F before a first character that is no start; then what the finish adds
+-- a section's part of the queue: its image with 34F before a first character that is no start; then what the finish adds, 34F after a
+-- last character that is no end, and 0A where it is owed
 unfoldable pub sectionOf : List ℕ → ℕ → Bool → List Piece → Bool → List ℕ
 sectionOf p last owed xs eof =
-    startMark p (image xs) ++ (image xs ++ (endMarkAfter last (image xs) ++ cond (eof && owedAfter owed xs) (0x0A ∷ []) []))
+    startMark p (image xs)
+    ++ (image xs ++ (leadChars (endMarkOf (lastOf last (image xs))) ++ leadChars (newlineOf (eof && owedAfter owed xs))))
 
 -- the queue, section by section: the last character and an owed 0A go over a push, and an end of file leaves none owed
 unfoldable pub streamOf : List ℕ → ℕ → Bool → List Section → List (List Piece) → List ℕ

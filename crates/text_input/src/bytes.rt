@@ -11,7 +11,7 @@ ghost use lib.ListN.{length, take, drop};
 ghost use lib.Seq.{sets};
 ghost use Rattle.unicode.specs.Chars.{areChars};
 ghost use Rattle.unicode.specs.Utf8.{continuation, encodeAll};
-ghost use Rattle.text_input.specs.Fill.{taken, zeroed, fillOutcome, fillOf};
+ghost use Rattle.text_input.specs.Fill.{takenChars, zeroed, fillOutcome, fillOf};
 
 // The characters taken from the queue and the bytes filled, or the number of a refusal.
 pub enum Filled {
@@ -51,9 +51,9 @@ struct Encoded {
 // Encodes characters of the queue while at least four bytes are free. Inner: asks for characters.
 fn encode_queue(queue: &[u32], buf: &mut [u8]) -> Encoded
     requires { ⌜ areChars (now queue) ≡ true ⌝ }
-    ensures taken { λ r. ⌜ r .taken ≡ length (taken (length (now (buf .entry))) (now (queue .entry))) ⌝ }
-    ensures filled { λ r. ⌜ r .bytes ≡ length (encodeAll (taken (length (now (buf .entry))) (now (queue .entry)))) ⌝ }
-    ensures bytes { λ r. ⌜ now (buf .exit) ≡ sets (now (buf .entry)) 0 (encodeAll (taken (length (now (buf .entry))) (now (queue .entry)))) ⌝ }
+    ensures taken { λ r. ⌜ r .taken ≡ length (takenChars (length (now (buf .entry))) (now (queue .entry))) ⌝ }
+    ensures filled { λ r. ⌜ r .bytes ≡ length (encodeAll (takenChars (length (now (buf .entry))) (now (queue .entry)))) ⌝ }
+    ensures bytes { λ r. ⌜ now (buf .exit) ≡ sets (now (buf .entry)) 0 (encodeAll (takenChars (length (now (buf .entry))) (now (queue .entry)))) ⌝ }
 {
     let mut i = 0;
     let mut k = 0;

@@ -18,9 +18,10 @@ use unicode::NEL;
 use unicode::PS;
 ghost use mathlib.Core.Path.{_≡_};
 ghost use mathlib.Core.Bool.{true};
+ghost use Rattle.replace.specs.Replace.{chars};
 ghost use Rattle.page.specs.Page.{accepted};
 ghost use Rattle.text_input.specs.Sets.{parameter, final, stringEnd, upTo7F, newlineChar, optionalLine};
-ghost use Rattle.text_input.specs.Step.{leaveOf, escLeave, csiLeave, meetOf, firstChar, lastChar, guardOf, lastOf, leadChars, imageChars, madeOf, groundOf, stepOf};
+ghost use Rattle.text_input.specs.Step.{leaveOf, escLeave, csiLeave, meetOf, firstChar, guardOf, lastOf, leadChars, imageChars, madeOf, groundOf, stepOf};
 
 // What comes before an image: a character that was pending, or the 34F that guards the image's first character.
 pub enum Lead {
@@ -36,7 +37,7 @@ pub enum Image {
 
 // What a character does to what is pending before it.
 pub enum Left {
-    // It is part of it, which leaves this state.
+    // It gives nothing and leaves this state: it is part of it, or the ESC at which one escape ends and the next begins.
     Part(State),
     // It is the 0A of 0D 0A.
     Newline,
@@ -242,7 +243,7 @@ pub fn last_lead(last: u32, lead: Lead) -> u32
 }
 
 fn last_replaced(image: Replaced) -> u32
-    ensures { λ r. ⌜ r ≡ lastChar image ⌝ }
+    ensures { λ r. ⌜ r ≡ lastOf 0 (chars image) ⌝ }
 {
     match image {
         Replaced::One(a) => a,

@@ -2,7 +2,7 @@
 use mathlib.Core.Path.{_≡_, ap, _∙_}
 use borrow.Author.Needs.{needs}
 use Rattle.text_input.specs.Scan.{Outcome, finishOf}
-use Rattle.basic_text.specs.Exports.{numbers, withNumbers, flag, recordOf, replyOf}
+use Rattle.basic_text.specs.Exports.{numbersOf, withNumbers, flag, recordOf, replyOf}
 use Rattle.basic_text.proofs.basic_text_finish.Statement.{statement}
 use Rattle.basic_text.proofs.basic_text_finish.Tie as tie
 
@@ -12,8 +12,8 @@ returns c =
     let e = f .before .before in
     let r = e .before in
     let a = r .before .before .args in
-    let w : finishOf (r .record-of .result) (e .flag-of .result) (numbers (a .queue .now))
-    ≡ finishOf (recordOf (a .«record»)) (flag (a .eof)) (numbers (a .queue .now)) =
+    let w : finishOf (r .record-of .result) (e .flag-of .result) (numbersOf (a .queue .now))
+    ≡ finishOf (recordOf (a .«record»)) (flag (a .eof)) (numbersOf (a .queue .now)) =
     rw (r .record-of .ensures, e .flag-of .ensures) in (
       c .reply-of .ensures ∙ ap replyOf (f .finish .ensures .0 ∙ w),
       f .finish .ensures .1 ∙ ap (λ (x : Outcome). withNumbers (x .places) (a .queue .now)) w,

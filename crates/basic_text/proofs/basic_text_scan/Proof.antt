@@ -2,7 +2,7 @@
 use mathlib.Core.Path.{ap, _∙_}
 use borrow.Author.Needs.{needs}
 use Rattle.text_input.specs.Scan.{Outcome}
-use Rattle.basic_text.specs.Exports.{numbers, pageOf, withNumbers, recordOf, optionsOf, replyOf}
+use Rattle.basic_text.specs.Exports.{numbersOf, pageOf, withNumbers, recordOf, optionsOf, replyOf}
 use Rattle.basic_text.proofs.Pages.{scan-read}
 use Rattle.basic_text.proofs.basic_text_scan.Statement.{statement}
 use Rattle.basic_text.proofs.basic_text_scan.Tie as tie
@@ -15,7 +15,7 @@ returns c =
     let n = r .before .before in
     let a = n .before .before .before .before .before .args in
     let w =
-    scan-read (recordOf (a .«record»)) _ (optionsOf (a .options)) _ (pageOf (a .page .now)) (n .read-page .last .1 .0) (n .read-page .result) (numbers (a .chunk .now)) (numbers (a .queue .now))
+    scan-read (recordOf (a .«record»)) _ (optionsOf (a .options)) _ (pageOf (a .page .now)) (n .read-page .last .1 .0) (n .read-page .result) (numbersOf (a .chunk .now)) (numbersOf (a .queue .now))
     (r .record-of .ensures)
     (o .options-of .ensures)
     (n .read-page .ensures .1) in (

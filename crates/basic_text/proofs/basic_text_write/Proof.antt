@@ -2,7 +2,7 @@
 use mathlib.Core.Path.{ap, _∙_}
 use denote.Ref.{now}
 use Rattle.text_output.specs.Writer.{BytesOutcome}
-use Rattle.basic_text.specs.Exports.{numbers, pageOf, withNumbers, writerOf, writeReplyOf}
+use Rattle.basic_text.specs.Exports.{numbersOf, pageOf, withNumbers, writerOf, writeReplyOf}
 use Rattle.basic_text.proofs.Pages.{write-read}
 use borrow.Author.Needs.{needs}
 use Rattle.basic_text.proofs.basic_text_write.Statement.{statement}
@@ -14,7 +14,7 @@ returns c =
     let n = c .before .before .before .before .before .before .before .before .before .read-page in
     let x = c .before .before .before .write .ensures in
     let is =
-    write-read (writerOf (a .writer)) _ (pageOf (now (a .page))) (n .last .1 .0) (n .result) (now (a .bytes)) (numbers (now (a .queue)))
+    write-read (writerOf (a .writer)) _ (pageOf (now (a .page))) (n .last .1 .0) (n .result) (now (a .bytes)) (numbersOf (now (a .queue)))
     (c .before .before .before .before .before .before .before .writer-of .ensures)
     (n .ensures .1) in (
       c .write-reply-of .ensures ∙ ap writeReplyOf (x .0 ∙ is),

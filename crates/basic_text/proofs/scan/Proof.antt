@@ -1,5 +1,5 @@
--- `basic_text::scan` meets its contract: where no refusal stands in the way, the run of the chunk, without its mark, is what
--- `scanOf` says.
+-- `basic_text::scan` meets its contract: where no refusal stands in the way, the run of the chunk, without a dropped U+FEFF,
+-- is what `scanOf` says.
 use Prim.Native.Nat.{_+_, _/_, _≤_}
 use mathlib.Core.Path.{_≡_}
 use native.Mathlib.Omega.{arith}
@@ -8,7 +8,7 @@ use lib.ListN.{length}
 use Rattle.unicode.specs.Chars.{areChars}
 use Rattle.page.specs.Page.{accepted}
 use Rattle.text_input.specs.Scan.{refusalOf}
-use Rattle.basic_text.specs.Exports.{numbers}
+use Rattle.basic_text.specs.Exports.{numbersOf}
 use Rattle.basic_text.proofs.Laws.{Bytes}
 use Rattle.basic_text.proofs.Calls.{scan-refused, right-page, few, inside, room, scan-accepted}
 use Rattle.basic_text.proofs.scan.Statement.{statement}
@@ -21,7 +21,7 @@ Entry c = c .before .before .before .before .before .before
 no : (c : tie.After-refusal) →
     let a = Entry c .args in
     c .refusal .result
-    ≡ refusalOf (a .r .count) (accepted (a .page .now)) (areChars (numbers (a .chunk .now))) (length (a .chunk .now) / 4) (length (a .queue .now) / 4)
+    ≡ refusalOf (a .r .count) (accepted (a .page .now)) (areChars (numbersOf (a .chunk .now))) (length (a .chunk .now) / 4) (length (a .queue .now) / 4)
 no c = rw (← c .before .hold-chars .ensures, ← c .before .before .is-accepted .ensures) (c .refusal .ensures)
 
 bytes : (c : tie.After-refusal) → Bytes (Entry c .args .queue .now)

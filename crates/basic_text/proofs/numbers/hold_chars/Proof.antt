@@ -9,24 +9,24 @@ use native.Mathlib.Numerals.{add-one}
 use lib.ListN.{length, getD, drop, drop-of-length-le}
 use lib.Seq.{drop-cons}
 use Rattle.unicode.specs.Chars.{isChar, areChars}
-use Rattle.basic_text.specs.Exports.{numbers}
+use Rattle.basic_text.specs.Exports.{numbersOf}
 use Rattle.basic_text.proofs.Laws.{length-numbers}
 use borrow.Author.Needs.{needs}
 use Rattle.basic_text.proofs.numbers.hold_chars.Statement.{statement}
 use Rattle.basic_text.proofs.numbers.hold_chars.Tie as tie
 
 abbrev Inv-loop : tie.InvT-loop
-Inv-loop bytes good₀ i₀ good i = (i ≤ length (numbers bytes)) × (good && areChars (drop i (numbers bytes)) ≡ areChars (numbers bytes))
+Inv-loop bytes good₀ i₀ good i = (i ≤ length (numbersOf bytes)) × (good && areChars (drop i (numbersOf bytes)) ≡ areChars (numbersOf bytes))
 
 abbrev μ-loop : tie.MeasureT-loop
-μ-loop bytes good₀ i₀ good i = length (numbers bytes) - i
+μ-loop bytes good₀ i₀ good i = length (numbersOf bytes) - i
 
 turn : (cs : List ℕ) (i n : ℕ) (good b : Bool) → i < length cs → n ≡ getD cs i 0 → b ≡ isChar n →
     (good && b) && areChars (drop (i + 1) cs) ≡ good && areChars (drop i cs)
 turn cs i n good b h d e = rw (and-assoc, e, d, add-one, drop-cons cs i 0)
 
 -- a turn has a number to read
-more : (c : tie.In-loop Inv-loop μ-loop) → c .before .loop .i < length (numbers (c .before .before .before .args .bytes .now))
+more : (c : tie.In-loop Inv-loop μ-loop) → c .before .loop .i < length (numbersOf (c .before .before .before .args .bytes .now))
 more c = omega (arith, length-numbers (c .before .before .before .args .bytes .now))
 
 loop-again : tie.Need-loop-again Inv-loop μ-loop
@@ -39,8 +39,8 @@ returns : tie.Need-returns Inv-loop μ-loop
 returns c =
     let l = c .before .loop in
     let bytes = c .before .before .before .args .bytes .now in
-    let past : length (numbers bytes) ≤ l .i = omega (arith, length-numbers bytes) in
-    sym (and-true (l .good)) ∙ rw (drop-of-length-le (numbers bytes) past) at (l .inv .1)
+    let past : length (numbersOf bytes) ≤ l .i = omega (arith, length-numbers bytes) in
+    sym (and-true (l .good)) ∙ rw (drop-of-length-le (numbersOf bytes) past) at (l .inv .1)
 
 pub hold-chars-spec : {M : Type 1} → statement M
 hold-chars-spec =

@@ -9,7 +9,7 @@ use borrow.Author.Needs.{needs}
 use lib.ListN.{length, drop, set, getD, length-set, drop-of-length-le}
 use lib.Seq.{sets, drop-cons}
 use Rattle.unicode.specs.Chars.{filled}
-use Rattle.basic_text.specs.Exports.{numbers}
+use Rattle.basic_text.specs.Exports.{numbersOf}
 use Rattle.basic_text.proofs.Laws.{length-numbers}
 use Rattle.unicode.proofs.Lists.{sets-filled}
 use Rattle.basic_text.proofs.numbers.read_numbers.Statement.{statement}
@@ -30,19 +30,19 @@ turn ns out₀ out i n g h e =
     }
 
 abbrev Inv-loop : tie.InvT-loop
-Inv-loop bytes out₀ i₀ out i = Going (numbers bytes) out₀ out i
+Inv-loop bytes out₀ i₀ out i = Going (numbersOf bytes) out₀ out i
 
 abbrev μ-loop : tie.MeasureT-loop
-μ-loop bytes out₀ i₀ out i = length (numbers bytes) - i
+μ-loop bytes out₀ i₀ out i = length (numbersOf bytes) - i
 
 -- a turn has a number to read
-more : (c : tie.In-loop Inv-loop μ-loop) → c .before .loop .i < length (numbers (c .before .before .before .before .args .bytes .now))
+more : (c : tie.In-loop Inv-loop μ-loop) → c .before .loop .i < length (numbersOf (c .before .before .before .before .args .bytes .now))
 more c = omega (arith, length-numbers (c .before .before .before .before .args .bytes .now))
 
 loop-holds : tie.Need-loop-holds Inv-loop μ-loop
 loop-holds c =
     let s = c .before .before in
-    record { low = omega arith; same = refl; places = sets-filled (numbers (s .args .bytes .now)) (s .args .out .now) (s .pre) }
+    record { low = omega arith; same = refl; places = sets-filled (numbersOf (s .args .bytes .now)) (s .args .out .now) (s .pre) }
 
 slice-write-out : tie.Need-slice-write-out Inv-loop μ-loop
 slice-write-out c = omega (arith, more (c .before), c .before .before .loop .inv .same)
@@ -53,8 +53,8 @@ loop-again c = turn _ _ _ _ _ (c .before .before .loop .inv) (more (c .before)) 
 returns : tie.Need-returns Inv-loop μ-loop
 returns c =
     let bytes = c .before .before .before .before .args .bytes .now in
-    let past : length (numbers bytes) ≤ c .before .loop .i = omega (arith, length-numbers bytes) in
-    rw (drop-of-length-le (numbers bytes) past) at (c .before .loop .inv .places)
+    let past : length (numbersOf bytes) ≤ c .before .loop .i = omega (arith, length-numbers bytes) in
+    rw (drop-of-length-le (numbersOf bytes) past) at (c .before .loop .inv .places)
 
 pub read-numbers-spec : {M : Type 1} → statement M
 read-numbers-spec =

@@ -3,21 +3,21 @@
 use Prim.Native.Nat.{_-_, _<_, _≤_}
 use native.Mathlib.Omega.{arith}
 use lib.ListN.{length}
-use Rattle.basic_text.specs.Exports.{numbers}
+use Rattle.basic_text.specs.Exports.{numbersOf}
 use Rattle.basic_text.proofs.Laws.{length-numbers}
 use Rattle.basic_text.proofs.Loop.{Going, begin, fits, again, ended}
 use Rattle.basic_text.proofs.run.run.Statement.{statement}
 use Rattle.basic_text.proofs.run.run.Tie as tie
 
 abbrev Inv-loop : tie.InvT-loop
-Inv-loop page options chunk from queue₀ r₀ k₀ i₀ queue r k i = Going page options (numbers chunk) from queue₀ r₀ queue r k i
+Inv-loop page options chunk from queue₀ r₀ k₀ i₀ queue r k i = Going page options (numbersOf chunk) from queue₀ r₀ queue r k i
 
 abbrev μ-loop : tie.MeasureT-loop
-μ-loop page options chunk from queue₀ r₀ k₀ i₀ queue r k i = length (numbers chunk) - i
+μ-loop page options chunk from queue₀ r₀ k₀ i₀ queue r k i = length (numbersOf chunk) - i
 
 -- a turn has a number to read
 more : (c : tie.In-loop Inv-loop μ-loop) →
-    c .before .loop .i < length (numbers (c .before .before .before .before .before .args .chunk .now))
+    c .before .loop .i < length (numbersOf (c .before .before .before .before .before .args .chunk .now))
 more c = omega (arith, length-numbers (c .before .before .before .before .before .args .chunk .now), c .loop-test .taken)
 
 loop-holds : tie.Need-loop-holds Inv-loop μ-loop
@@ -38,7 +38,7 @@ loop-again c =
 returns : tie.Need-returns Inv-loop μ-loop
 returns c =
     let chunk = c .before .before .before .before .before .args .chunk .now in
-    let past : length (numbers chunk) ≤ c .before .loop .i = omega (arith, length-numbers chunk, c .loop-test .left) in
+    let past : length (numbersOf chunk) ≤ c .before .loop .i = omega (arith, length-numbers chunk, c .loop-test .left) in
     ended _ _ _ _ _ _ _ _ _ _ (c .before .loop .inv) past
 
 pub run-spec : {M : Type 1} → statement M

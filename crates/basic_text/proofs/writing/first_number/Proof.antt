@@ -5,12 +5,12 @@ use mathlib.Core.List.{List, [], _∷_}
 use native.Mathlib.Omega.{arith}
 use denote.Ref.{now}
 use lib.ListN.{length, getD}
-use Rattle.basic_text.specs.Exports.{numbers}
+use Rattle.basic_text.specs.Exports.{numbersOf}
 use borrow.Author.Needs.{needs}
 use Rattle.basic_text.proofs.writing.first_number.Statement.{statement}
 use Rattle.basic_text.proofs.writing.first_number.Tie as tie
 
-none-first : (q : List ℕ) → length q < 4 → 0 ≡ getD (numbers q) 0 0
+none-first : (q : List ℕ) → length q < 4 → 0 ≡ getD (numbersOf q) 0 0
 none-first [] h = refl
 none-first (a ∷ []) h = refl
 none-first (a ∷ b ∷ []) h = refl

@@ -11,7 +11,7 @@ use Rattle.unicode.proofs.Texts.{step-on}
 use Rattle.text_write.specs.Inner.{writerAt}
 use Rattle.text_write.proofs.Rest.{run-rest}
 use Rattle.text_write.proofs.Runs.{GoingBytes, begin, again, stopped, ended, turn-room, finish-room, left-begin, left-on, left-stop}
-use Rattle.basic_text.specs.Exports.{numbers}
+use Rattle.basic_text.specs.Exports.{numbersOf}
 use Rattle.basic_text.specs.Inner.{tail}
 use Rattle.basic_text.proofs.writing.run_write.Statement.{statement}
 use Rattle.basic_text.proofs.writing.run_write.Tie as tie
@@ -19,7 +19,7 @@ use Rattle.basic_text.proofs.writing.run_write.Tie as tie
 abbrev Inv-loop : tie.InvT-loop
 Inv-loop page bytes escape₀ queue₀ crlf w₀ isolator₀ place₀ escape queue w isolator place =
     (tail queue ≡ tail queue₀)
-    × ((length queue ≡ length queue₀) × GoingBytes page crlf w₀ escape₀ (numbers queue₀) bytes w isolator place escape (numbers queue))
+    × ((length queue ≡ length queue₀) × GoingBytes page crlf w₀ escape₀ (numbersOf queue₀) bytes w isolator place escape (numbersOf queue))
 
 abbrev μ-loop : tie.MeasureT-loop
 μ-loop page bytes escape₀ queue₀ crlf w₀ isolator₀ place₀ escape queue w isolator place = length bytes - place

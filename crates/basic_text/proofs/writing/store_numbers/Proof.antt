@@ -3,7 +3,7 @@ use mathlib.Core.Path.{_∙_, ap}
 use native.Mathlib.Omega.{arith}
 use denote.Ref.{now}
 use lib.ListN.{take}
-use Rattle.basic_text.specs.Exports.{numbers}
+use Rattle.basic_text.specs.Exports.{numbersOf}
 use Rattle.basic_text.specs.Inner.{tail}
 use Rattle.basic_text.proofs.Laws.{length-numbers}
 use Rattle.basic_text.proofs.Crossing.{Wide}
@@ -24,7 +24,7 @@ returns c =
     let e = c .before .before .write-numbers .ensures in
     let fits = take-fits (a .k) (a .n) (now (a .from)) _ (s .pre .0) (s .pre .1) in
     let wide : Wide (now (a .from)) = λ i. omega (arith, c .before .before .before .before .shared-slice-known .given i) in (
-      ap numbers e ∙ numbers-sets (take (a .n) (now (a .from))) (now (a .queue)) (a .k) (take-wide (a .n) (now (a .from)) wide) fits,
+      ap numbersOf e ∙ numbers-sets (take (a .n) (now (a .from))) (now (a .queue)) (a .k) (take-wide (a .n) (now (a .from)) wide) fits,
       ap tail e ∙ tail-sets (take (a .n) (now (a .from))) (now (a .queue)) (a .k) fits,
     )
 

@@ -10,7 +10,7 @@ use Rattle.unicode.proofs.Texts.{longest}
 use Rattle.text_output.specs.Writer.{BytesOutcome}
 use Rattle.text_output.specs.Write.{taking}
 use Rattle.text_write.proofs.Entries.{bytes-refused, let-through, bytes-run, write-ends, end-anywhere, place-sound, place-fits, same-end, taken, refused-anywhere}
-use Rattle.basic_text.specs.Exports.{numbers, withNumbers}
+use Rattle.basic_text.specs.Exports.{numbersOf, withNumbers}
 use Rattle.basic_text.proofs.Laws.{Bytes, length-numbers, with-all}
 use Rattle.basic_text.proofs.Moved.{with-tail}
 use borrow.Author.Needs.{needs}
@@ -28,7 +28,7 @@ returns c =
     let p = now (a .page) in
     let bytes = now (a .bytes) in
     let queue = now (a .queue) in
-    let out = numbers queue in
+    let out = numbersOf queue in
     let no = rw (c .before .before .before .valid-prefix .ensures, ← length-numbers queue) at (c .before .before .bytes-refusal .ensures) in
     let r = c .refused-bytes .ensures in
     let is =
@@ -44,7 +44,7 @@ run-write-requires c κs =
     let p = now (a .page) in
     let bytes = now (a .bytes) in
     let queue = now (a .queue) in
-    let out = numbers queue in
+    let out = numbersOf queue in
     let no = rw (c .before .before .before .before .before .before .valid-prefix .ensures, ← length-numbers queue) at (c .before .before .before .before .before .bytes-refusal .ensures) in
     let f = let-through w p bytes out _ no (omega (arith, c .before .before .before .before .if1 .left)) in
     let r = c .before .before .place-of .result in
@@ -59,7 +59,7 @@ end-write-requires c κs =
     let p = now (a .page) in
     let bytes = now (a .bytes) in
     let queue = now (a .queue) in
-    let out = numbers queue in
+    let out = numbersOf queue in
     let no = rw (c .before .before .before .before .before .before .before .before .before .before .before .before .valid-prefix .ensures, ← length-numbers queue) at (c .before .before .before .before .before .before .before .before .before .before .before .bytes-refusal .ensures) in
     let f = let-through w p bytes out _ no (omega (arith, c .before .before .before .before .before .before .before .before .before .before .if1 .left)) in
     f .page
@@ -71,7 +71,7 @@ returns-2 c =
     let p = now (a .page) in
     let bytes = now (a .bytes) in
     let queue = now (a .queue) in
-    let out = numbers queue in
+    let out = numbersOf queue in
     let no = rw (c .before .before .before .before .before .before .before .before .before .before .before .before .before .before .valid-prefix .ensures, ← length-numbers queue) at (c .before .before .before .before .before .before .before .before .before .before .before .before .before .bytes-refusal .ensures) in
     let f = let-through w p bytes out _ no (omega (arith, c .before .before .before .before .before .before .before .before .before .before .before .before .if1 .left)) in
     let r = c .before .before .before .before .before .before .before .before .before .before .place-of .result in
@@ -84,11 +84,11 @@ returns-2 c =
     let steps = c .before .before .before .before .before .before .before .run-write .ensures in
     let n = ap (λ (q : Prefix). q .bytes) (c .before .before .before .before .before .before .before .before .before .before .before .before .before .before .valid-prefix .ensures) in
     let written =
-    end-anywhere p (c .before .end-write .result) x escape _ (c .before .end-write .ensures .0) (numbers after) (c .before .before .first-number .ensures)
-    ∙ same-end w r (e .0) (e .1) p cs x escape (numbers after) out (steps .0)
+    end-anywhere p (c .before .end-write .result) x escape _ (c .before .end-write .ensures .0) (numbersOf after) (c .before .before .first-number .ensures)
+    ∙ same-end w r (e .0) (e .1) p cs x escape (numbersOf after) out (steps .0)
     ∙ write-ends w p cs out (f .is-sound) (f .page) (longest bytes .chars) (f .fits) in
     let is =
-    taken (c .taking .result) (c .before .end-write .result) _ (numbers after) bytes (t .0) (t .1 .0) (t .1 .1) n
+    taken (c .taking .result) (c .before .end-write .result) _ (numbersOf after) bytes (t .0) (t .1 .0) (t .1 .1) n
     ∙ ap (taking bytes) written
     ∙ bytes-run w p bytes out (f .is-sound) (f .page) (f .begins) in
     let small : Bytes after = λ i. omega (arith, c .before .before .before .before .slice-known2 .given i) in

@@ -1,4 +1,4 @@
--- `skips` meets its contract: its tests are those of `skipped`, and an empty chunk has no mark.
+-- `skips` meets its contract: its tests are those of `skipped`, and an empty chunk has no U+FEFF.
 use denote.Ref.{now}
 use Prim.Native.Nat.{ℕ, _≤_, _<_}
 use mathlib.Core.Path.{_≡_, refl}
@@ -10,15 +10,15 @@ use lib.ListN.{length, getD}
 use borrow.Author.Needs.{needs}
 use borrow.Author.Tests.{not-true, not-false}
 use Rattle.unicode.proofs.Kit.{tests}
-use Rattle.text_input.specs.Scan.{mark}
+use Rattle.text_input.specs.Scan.{leadingBom}
 use Rattle.text_input.proofs.TextInput.skips.Statement.{statement}
 use Rattle.text_input.proofs.TextInput.skips.Tie as tie
 
-some : (cs : List ℕ) → 0 < length cs → cond (eqb (getD cs 0 0) 0xFEFF) 1 0 ≡ mark cs
+some : (cs : List ℕ) → 0 < length cs → cond (eqb (getD cs 0 0) 0xFEFF) 1 0 ≡ leadingBom cs
 some [] h = absurd (omega arith)
 some (c ∷ cs) h = refl
 
-none : (cs : List ℕ) → length cs ≤ 0 → 0 ≡ mark cs
+none : (cs : List ℕ) → length cs ≤ 0 → 0 ≡ leadingBom cs
 none [] h = refl
 none (c ∷ cs) h = absurd (omega arith)
 
