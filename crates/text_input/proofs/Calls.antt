@@ -91,21 +91,22 @@ module _ (r : TextInput) (eof : Bool) (queue : List ℕ) where
     pub finish-enough : length (leadChars lead ++ (leadChars mark ++ leadChars newline)) ≤ length queue
     finish-enough = rw (h₃, h₂, h₁) (omega (arith, ending-room (r .state) (r .last) newline))
 
-    pub finished-is : (line expect : Bool) (l₂ l₃ k : ℕ) (q : List ℕ) →
+    pub finished-is : (line expect start : Bool) (l₂ l₃ k : ℕ) (q : List ℕ) →
         line ≡ afterLine (r .state) → newline ≡ newlineOf (eof && not line) → expect ≡ finishNext r eof .«expect_starter» →
+        start ≡ finishNext r eof .«at_start» →
         l₂ ≡ lastOf last (leadChars mark) → l₃ ≡ lastOf l₂ (leadChars newline) →
         (k ≡ length (leadChars lead ++ (leadChars mark ++ leadChars newline)))
         × (q ≡ filled (leadChars lead ++ (leadChars mark ++ leadChars newline)) queue)
         → outcome
         (record {
           answer = Written k;
-          next = record { state = Ground (eof || line); «expect_starter» = expect; «at_start» = r .«at_start»; last = l₃; count = r .count };
+          next = record { state = Ground (eof || line); «expect_starter» = expect; «at_start» = start; last = l₃; count = r .count };
         })
         q
         ≡ finishOf r eof queue
     unfolding finishOf
-    finished-is line expect l₂ l₃ k q h₄ h₅ h₆ h₇ h₈ h =
+    finished-is line expect start l₂ l₃ k q h₄ h₅ h₆ h₇ h₈ h₉ h =
         let parts : leadChars lead ++ (leadChars mark ++ leadChars newline) ≡ finishChars r eof = rw (h₅, h₃, h₂, h₁, h₄) in
         let l : l₃ ≡ lastOf (r .last) (finishChars r eof) =
-        rw (h₈, h₇, h₂) (last-three (r .last) (leadChars lead) (leadChars mark) (leadChars newline) ∙ rw parts) in
-        rw (le-ltb (length queue) 2 room, l, h .0, h .1, parts, h₄, h₆)
+        rw (h₉, h₈, h₂) (last-three (r .last) (leadChars lead) (leadChars mark) (leadChars newline) ∙ rw parts) in
+        rw (le-ltb (length queue) 2 room, l, h .0, h .1, parts, h₄, h₆, h₇)

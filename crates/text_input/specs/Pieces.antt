@@ -51,8 +51,8 @@ noBracket (c ∷ q) = not (eqb c 0x5B)
 --     or one of 40..7E other than `[` and `]`, or 18;                                                  two
 --     or, none of these fitting, nothing."                                                             alone
 -- "if it stands there", "all up to the first", "to the end if none of the three comes" and "none of these fitting" say that the
--- longest is taken; `LongestPiece` says it for every piece, so these are the lengths among which it chooses. A string's characters leave
--- out 1B, so that it ends before one.
+-- longest is taken; `LongestPiece` says it for every piece, so these are the lengths among which it chooses. A string's characters
+-- leave out 1B, so that it ends before one.
 pub data Escape : List ℕ → Type 0 where
   linux : Escape (0x1B ∷ 0x5B ∷ 0x5B ∷ [])
   linuxChar : {c : ℕ} → upTo7F c ≡ true → Escape (0x1B ∷ 0x5B ∷ 0x5B ∷ c ∷ [])

@@ -85,7 +85,7 @@ unfoldable pub meetOf : Options → ℕ → Met
 meetOf o c =
     cond (eqb c 0x0A) Line (cond (eqb c 0x0D) (Opens Cr) (cond (eqb c 0x0C) (Opens Ff) (cond (eqb c 0x1B) (Opens Esc) (cond (optionalLine o c) Line Other))))
 
--- "Prepend a CGJ if needed to guard a non-starter": the lead of an image. Where a start is expected, none was there before.
+-- "Prepend a CGJ if needed to guard a non-starter": the lead with its image. Where a start is expected there is no lead before it.
 abbrev pub guardOf : List ℕ → Lead → Bool → Replaced → Lead
 guardOf p lead expect image = cond expect (cond (basicTextStart p (firstChar image)) lead (Char 0x34F)) lead
 

@@ -1,6 +1,6 @@
 -- Streams of accepted calls: chunks and finishes, and what they come to in terms of the pieces. Document 01, "A stream finishes".
--- It states what each finish adds, a push too, where a stream has any number of them. Demand 3 has one finish and refused calls in
--- between: the list of calls of `demand`, specs/Calls.antt, has these, with each call's page, options and places. Assumes nothing.
+-- A stream here has any number of finishes, pushes among them, and the definitions say what each adds to the queue. Demand 3 is about
+-- one finish with refused calls in between, for which `demand`, specs/Calls.antt, has a list of calls of its own. Assumes nothing.
 use Prim.Native.Nat.{ℕ}
 use mathlib.Core.Bool.{Bool, true, false, cond, not, _&&_}
 use mathlib.Core.List.{List, [], _∷_, _++_, flatten}

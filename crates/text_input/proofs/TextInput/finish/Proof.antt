@@ -23,8 +23,8 @@ returns-2 c =
     let l = m .before .before .before in
     let a = l .before .before .before .args in
     finished-is (a .self) (a .eof) (now (a .queue)) (omega (arith, l .before .if1 .left)) _ _ _ _
-    (m .before .before .pending .ensures) (m .before .last-lead .ensures) (m .end-mark .ensures) _ _ _ _ _ _
-    (l .after-line .ensures) (n .owed-newline .ensures) refl (c .before .last-lead2 .ensures) (c .last-lead3 .ensures) (t .put-three .ensures)
+    (m .before .before .pending .ensures) (m .before .last-lead .ensures) (m .end-mark .ensures) _ _ _ _ _ _ _
+    (l .after-line .ensures) (n .owed-newline .ensures) refl refl (c .before .last-lead2 .ensures) (c .last-lead3 .ensures) (t .put-three .ensures)
 
 pub finish-spec : {M : Type 1} → statement M
 finish-spec =

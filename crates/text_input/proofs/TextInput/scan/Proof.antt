@@ -1,4 +1,5 @@
--- `scan` meets its contract: where no refusal stands in the way, the run of the chunk, without a dropped U+FEFF, is what `scanOf` says.
+-- `scan` meets its contract: where no refusal stands in the way, the run of the chunk, without a dropped U+FEFF, is what `scanOf`
+-- says.
 use Prim.Native.Nat.{_+_, _≤_}
 use denote.Ref.{now}
 use native.Mathlib.Omega.{arith}
