@@ -6,8 +6,7 @@ use Prim.Native.Nat.{ℕ}
 use mathlib.Core.Bool.{Bool, cond}
 use mathlib.Core.List.{List, [], _∷_, _++_, map}
 use mathlib.Core.Path.{_≡_, refl}
-use lib.Dec.{eqb}
-use lib.ListN.{take, drop, getD, replicate}
+use lib.ListN.{take, drop, replicate}
 use Rattle.unicode.specs.Chars.{isChar}
 use Rattle.ranges.specs.Ranges.{member, rises}
 use Rattle.page.specs.Page.{sized, rising, nonstarter, assigned, accepted}
@@ -25,6 +24,7 @@ use Rattle.text_output.specs.Writer.{Given, Outcome, fresh}
 use Rattle.text_output.specs.Step.{groundStep, escStep, csiStep, stepsOf}
 use Rattle.text_output.specs.Write.{runOf, parts, moreParts, writeRefusal, writeStrOf}
 use Rattle.text_output.specs.Close.{done, flushOf, closeOf, abandonOf}
+use Rattle.text_output.specs.Refusals.{filledIn}
 
 -- a call: a write brings so many of the places that live with the writer, and characters; or, between two calls, the record claims
 -- so many held
@@ -61,16 +61,11 @@ stateNumber Csi = 4
 abbrev flag : Bool → ℕ
 flag b = cond b 1 0
 
--- how many of the first places are handed out, or kept
-abbrev shown : List ℕ → ℕ → ℕ
-shown [] kept = kept
-shown (n ∷ ns) kept = cond (eqb n 0) (getD ns 0 0) kept
-
 abbrev tell : Given → List ℕ → Told
 tell g places =
     told (g .numbers)
     (flag (g .abandon) ∷ stateNumber (g .next .state) ∷ flag (g .next .«expect_starter») ∷ g .next .held ∷ [])
-    (take (shown (g .numbers) (g .next .kept)) places)
+    (take (filledIn g) places)
 
 abbrev claiming : TextOutput → ℕ → TextOutput
 claiming w n =

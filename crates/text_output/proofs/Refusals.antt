@@ -3,13 +3,14 @@
 --     write-leaves, write-bytes-leaves    what a write of characters, of bytes leaves
 --     flush-leaves, close-leaves          what a flush, a close leaves
 --     second-closes                       a second close after one refused by 11, 12 or 13 succeeds
-use Prim.Native.Nat.{ℕ, _+_}
+use Prim.Native.Nat.{ℕ, suc, _+_, _≤_}
 use mathlib.Core.Bool.{true, false, not, _&&_}
 use mathlib.Core.List.{List, [], _∷_}
-use mathlib.Core.Path.{_≡_, refl}
+use mathlib.Core.Path.{_≡_, refl, _∙_}
+use native.Mathlib.Omega.{arith}
 use lib.Dec.{eqb, ltb}
-use lib.ListN.{length, getD}
-use lib.Seq.{sets}
+use lib.ListN.{length, drop, set, getD}
+use lib.Seq.{sets, drop-set-lt}
 use Rattle.unicode.specs.Chars.{areChars}
 use Rattle.unicode.specs.Utf8.{charsOf}
 use Rattle.unicode.proofs.Kit.{never, by, split, both-true}
@@ -23,11 +24,15 @@ use Rattle.text_output.specs.Writer.{Given, sound, keeping, refusedBy, a
 use Rattle.text_output.specs.Step.{Stepped, goes, stops}
 use Rattle.text_output.specs.Write.{runIn, endedBy, placesFor, writeRefusal, writeStrOf, beginsNone, writeOf}
 use Rattle.text_output.specs.Close.{expecting, flushIn, flushOf, closeIn, closeOf}
-use Rattle.text_output.specs.Refusals.{Call, write, flush, close, refusalIn, oneOf, isClose, isQuiet, isOther, isSparing, Leaves, SecondCloses}
+use Rattle.text_output.specs.Refusals.{Call, write, flush, close, refusalIn, filledIn, oneOf, isClose, isQuiet, isOther, isSparing, Leaves, SecondCloses}
 use Rattle.text_output.proofs.Steps.{StepRefusal, four, six, Holds, mode-holds}
 
 -- ---- the three kinds of answer
 module _ (call : Call) (w : TextOutput) (places : List ℕ) where
+  -- the places past those that are handed out or kept are unchanged
+  abbrev Past : Given → List ℕ → Type 0
+  Past g after = drop (filledIn g) after ≡ drop (filledIn g) places
+
   -- a refusal that changes nothing
   quiet : (n : ℕ) → isOther call n ≡ false → eqb n 5 ≡ false → isClose call && not (eqb n 9) ≡ false →
       Leaves call w places (record { given = refusedBy n w; places = places })
@@ -39,6 +44,7 @@ module _ (call : Call) (w : TextOutput) (places : List ℕ) where
         spent-by-5 = λ e. never (rw five at e);
         set-by-close = λ e. never (rw again at e);
         kept-stay = λ e. (refl, refl);
+        past-stay = refl;
       }
 
   -- a refusal that tells the caller to abandon, of the writer before it is put after a newline
@@ -47,8 +53,8 @@ module _ (call : Call) (w : TextOutput) (places : List ℕ) where
       (eqb n 5 ≡ true → v .«expect_starter» ≡ false) →
       (isClose call && not (eqb n 9) ≡ true → v .«expect_starter» ≡ true) →
       (oneOf (3 ∷ 11 ∷ 12 ∷ 13 ∷ []) n ≡ true → (v .kept ≡ w .kept) × (after ≡ places)) →
-      Leaves call w places (record { given = abandonedBy (n ∷ values) v; places = after })
-  loud n values v after other sparing five again kept =
+      Past (abandonedBy (n ∷ values) v) after → Leaves call w places (record { given = abandonedBy (n ∷ values) v; places = after })
+  loud n values v after other sparing five again kept past =
       record {
         nothing = λ e. never (rw other at e);
         after-newline = λ e. (refl, (refl, refl));
@@ -56,13 +62,15 @@ module _ (call : Call) (w : TextOutput) (places : List ℕ) where
         spent-by-5 = five;
         set-by-close = again;
         kept-stay = kept;
+        past-stay = past;
       }
 
-  -- a success: no sentence but that on close speaks of it
+  -- a success: of the sentences on refusals only that on close speaks of it
   handed : (numbers : List ℕ) (next : TextOutput) (after : List ℕ) → getD numbers 0 0 ≡ 0 →
       (isClose call ≡ true → next .«expect_starter» ≡ true) →
+      Past (record { numbers = numbers; abandon = false; next = next }) after →
       Leaves call w places (record { given = record { numbers = numbers; abandon = false; next = next }; places = after })
-  handed numbers next after zero again =
+  handed numbers next after zero again past =
       record {
         nothing = λ e. never (rw zero at e);
         after-newline = λ e. never (rw zero at e);
@@ -70,15 +78,16 @@ module _ (call : Call) (w : TextOutput) (places : List ℕ) where
         spent-by-5 = λ e. never (rw zero at e);
         set-by-close = λ e. again (both-true (isClose call) _ e .0);
         kept-stay = λ e. never (rw zero at e);
+        past-stay = past;
       }
 
 -- ---- a flush and a close
 module _ (w : TextOutput) (places : List ℕ) where
   flush-in : (s : State) → Leaves flush w places (record { given = flushIn s w; places = places })
-  flush-in (Ground Newline) = handed flush w places [] (expecting w) places refl (λ e. refl)
+  flush-in (Ground Newline) = handed flush w places [] (expecting w) places refl (λ e. refl) refl
   flush-in (Ground ZwjOrPrepend) =
-      loud flush w places 11 [] w places refl (λ e. refl) (λ e. never e) (λ e. never e) (λ e. (refl, refl))
-  flush-in (Ground Other) = handed flush w places [] (expecting w) places refl (λ e. refl)
+      loud flush w places 11 [] w places refl (λ e. refl) (λ e. never e) (λ e. never e) (λ e. (refl, refl)) refl
+  flush-in (Ground Other) = handed flush w places [] (expecting w) places refl (λ e. refl) refl
   flush-in Esc = quiet flush w places 13 refl refl refl
   flush-in Csi = quiet flush w places 13 refl refl refl
 
@@ -92,10 +101,10 @@ module _ (w : TextOutput) (places : List ℕ) where
       Leaves close w places (record { given = abandonedBy (n ∷ []) (expecting w); places = places })
   closed-by n other sparing five =
       loud close w places n [] (expecting w) places other (λ e. never (rw sparing at e)) (λ e. never (rw five at e)) (λ e. refl)
-      (λ e. (refl, refl))
+      (λ e. (refl, refl)) refl
 
   close-in : (s : State) → Leaves close w places (record { given = closeIn s w; places = places })
-  close-in (Ground Newline) = handed close w places [] (expecting w) places refl (λ e. refl)
+  close-in (Ground Newline) = handed close w places [] (expecting w) places refl (λ e. refl) refl
   close-in (Ground ZwjOrPrepend) = closed-by 11 refl refl refl
   close-in (Ground Other) = closed-by 12 refl refl refl
   close-in Esc = closed-by 13 refl refl refl
@@ -139,14 +148,19 @@ refusal-quiet w p chars room =
     split LeavesAll (not (areChars chars)) (λ c. (refl, refl))
     (λ c. split LeavesAll (ltb room (placesFor w (length chars))) (λ r. (refl, refl)) (λ r. (refl, refl)))))
 
+-- stores before n leave the places from n on
+drop-sets : (n : ℕ) (l : List ℕ) (i : ℕ) (vs : List ℕ) → i + length vs ≤ n → drop n (sets l i vs) ≡ drop n l
+drop-sets n l i [] h = refl
+drop-sets n l i (v ∷ vs) h = drop-sets n (set l i v) (suc i) vs (omega arith) ∙ drop-set-lt n l i v (omega arith)
+
 module _ (w : TextOutput) (places : List ℕ) where
   -- a refused step
   stopped-leaves : {n : List ℕ} → StepRefusal n → (v : TextOutput) (after : List ℕ) → v .«expect_starter» ≡ w .«expect_starter» →
-      Leaves write w places (record { given = abandonedBy n v; places = after })
-  stopped-leaves four v after h =
-      loud write w places 4 _ v after refl (λ q. h) (λ q. never q) (λ q. never q) (λ q. never q)
-  stopped-leaves six v after h =
-      loud write w places 6 [] v after refl (λ q. h) (λ q. never q) (λ q. never q) (λ q. never q)
+      drop (v .kept) after ≡ drop (v .kept) places → Leaves write w places (record { given = abandonedBy n v; places = after })
+  stopped-leaves four v after h past =
+      loud write w places 4 _ v after refl (λ q. h) (λ q. never q) (λ q. never q) (λ q. never q) past
+  stopped-leaves six v after h past =
+      loud write w places 6 [] v after refl (λ q. h) (λ q. never q) (λ q. never q) (λ q. never q) past
 
   -- how a write ends, by its steps
   ended-leaves : (p : List ℕ) (s : Stepped) → Holds (λ (v : TextOutput). v .«expect_starter» ≡ w .«expect_starter») s →
@@ -154,12 +168,14 @@ module _ (w : TextOutput) (places : List ℕ) where
   ended-leaves p (goes xs v) h =
       let k = v .kept + length xs in
       let after = sets places (v .kept) xs in
+      let past = drop-sets k places (v .kept) xs (omega arith) in
       split (λ (g : Given). Leaves write w places (record { given = g; places = after }))
       (v .«expect_starter» && (ltb 0 k && not (basicTextStart p (getD after 0 0))))
-      (λ e. loud write w places 5 [] (keeping v false k) after refl (λ q. never q) (λ q. refl) (λ q. never q) (λ q. never q))
-      (λ e. handed write w places (0 ∷ k ∷ []) (keeping v false 0) after refl (λ q. never q))
+      (λ e. loud write w places 5 [] (keeping v false k) after refl (λ q. never q) (λ q. refl) (λ q. never q) (λ q. never q) past)
+      (λ e. handed write w places (0 ∷ k ∷ []) (keeping v false 0) after refl (λ q. never q) past)
   ended-leaves p (stops xs v n) h =
-      stopped-leaves (h .1) (keeping v (v .«expect_starter») (v .kept + length xs)) _ (h .0)
+      let k = v .kept + length xs in
+      stopped-leaves (h .1) (keeping v (v .«expect_starter») k) _ (h .0) (drop-sets k places (v .kept) xs (omega arith))
 
   pub write-leaves : (p chars : List ℕ) → Leaves write w places (writeStrOf w p chars places)
   unfolding writeStrOf
@@ -176,5 +192,5 @@ module _ (w : TextOutput) (places : List ℕ) where
   unfolding writeOf
   write-bytes-leaves p bytes =
       by (sound w && (accepted p && beginsNone bytes))
-      (λ e. rw e (loud write w places 3 [] w places refl (λ q. refl) (λ q. never q) (λ q. never q) (λ q. (refl, refl))))
+      (λ e. rw e (loud write w places 3 [] w places refl (λ q. refl) (λ q. never q) (λ q. never q) (λ q. (refl, refl)) refl))
       (λ e. rw e (write-leaves p (charsOf bytes)))

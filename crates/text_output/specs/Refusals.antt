@@ -1,15 +1,16 @@
--- What each refusal of a write, a flush or a close leaves, and a second close. Document 01, "Refused because of the state" and
--- "Characters go out". Assumes nothing.
+-- What each refusal of a write, a flush or a close leaves, which places stay, and a second close. Document 01, "Refused because of the
+-- state" and "Characters go out". Assumes nothing.
 use Prim.Native.Nat.{ℕ}
-use mathlib.Core.Bool.{Bool, true, false, not, _&&_, _||_}
+use mathlib.Core.Bool.{Bool, true, false, cond, not, _&&_, _||_}
 use mathlib.Core.List.{List, [], _∷_}
 use mathlib.Core.Path.{_≡_}
 use lib.Dec.{eqb, ltb}
-use lib.ListN.{getD}
+use lib.ListN.{drop, getD}
 use Rattle.text_output.specs.declared.Ground.the-variants.{Newline}
 use Rattle.text_output.specs.declared.State.the-variants.{Ground}
 use Rattle.text_output.specs.declared.TextOutput.{TextOutput}
 use Rattle.text_output.specs.Writer.{Given, Outcome}
+use Rattle.text_output.specs.Write.{succeeds}
 use Rattle.text_output.specs.Close.{closeOf}
 
 -- a write is of characters or of bytes
@@ -20,6 +21,11 @@ pub data Call : Type 0 where
 abbrev pub refusalIn : Given → ℕ
 refusalIn g = getD (g .numbers) 0 0
 
+-- how many of the first places are handed out, or kept
+abbrev pub filledIn : Given → ℕ
+filledIn g = cond (succeeds (g .numbers)) (getD (g .numbers) 1 0) (g .next .kept)
+
+-- n is among these
 abbrev pub oneOf : List ℕ → ℕ → Bool
 oneOf [] n = false
 oneOf (m ∷ ms) n = eqb n m || oneOf ms n
@@ -66,6 +72,8 @@ pub record Leaves (call : Call) (w : TextOutput) (places : List ℕ) (left : Out
   -- "Refused by 3, 11, 12 or 13, the kept characters stay."
   pub kept-stay : oneOf (3 ∷ 11 ∷ 12 ∷ 13 ∷ []) (refusalIn (left .given)) ≡ true →
       (left .given .next .kept ≡ w .kept) × (left .places ≡ places)
+  -- "Places past the filled, kept or handed-out ones are unchanged", refused or not
+  pub past-stay : drop (filledIn (left .given)) (left .places) ≡ drop (filledIn (left .given)) places
 
 -- "A second close after one refused by 11, 12 or 13 succeeds."
 abbrev pub SecondCloses : TextOutput → Type 0
