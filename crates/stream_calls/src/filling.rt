@@ -7,7 +7,7 @@ use protocol::words::Paired;
 use protocol::words::Rest;
 use protocol::words::Stored;
 use protocol::words::Value;
-use text_input::Filled;
+use text_fill::Filled;
 
 // The limit on LEN.
 const LARGEST: usize = 16384;
@@ -36,7 +36,7 @@ fn outcome(found: Filled, out: &mut [u8], at: usize) -> usize {
 
 // Fills the buffer from the queue, and answers with the whole buffer as it is then.
 fn fill(queue: &[u32], buffer: &mut [u8], out: &mut [u8], at: usize) -> usize {
-    let found = text_input::fill(queue, buffer);
+    let found = text_fill::fill(queue, buffer);
     let mut end = outcome(found, out, at);
     end = answer::text(out, end, b" bytes=");
     end = answer::pairs(out, end, buffer);

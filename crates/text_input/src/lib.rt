@@ -1,15 +1,11 @@
-// The scanner: ports text_input.rs. A chunk of characters comes in and its cleaned characters go to the queue (`scan`), a stream
-// ends or is pushed (`finish`), and the queue is encoded into bytes (`fill`). The queue is a lent slice: each call writes from its
-// first place on. The record is a value: each call takes one and answers the one after it.
+// The scanner: ports text_input.rs. A chunk of characters comes in and its cleaned characters go to the queue (`scan`), and a stream
+// ends or is pushed (`finish`). The queue is a lent slice: each call writes from its first place on. The record is a value: each call
+// takes one and answers the one after it. Filling bytes from the queue is the crate `text_fill`.
 //     step.rt    one character in one state: `process_raw_string` without its loop
 //     queue.rt   storing what a step or a finish appends
-//     bytes.rt   filling bytes
-mod bytes;
 mod queue;
 mod step;
 
-pub use bytes::Filled;
-pub use bytes::fill;
 use isolate_unassigned::Answer;
 use page::is_accepted;
 use queue::put;

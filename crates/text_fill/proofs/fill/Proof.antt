@@ -6,10 +6,10 @@ use lib.ListN.{length}
 use borrow.Author.Needs.{needs}
 use borrow.Author.Tests.{lt-ltb}
 use Rattle.unicode.proofs.Kit.{tests}
-use Rattle.text_input.specs.Fill.{fillOf}
-use Rattle.text_input.proofs.Filling.{fits, filled-is}
-use Rattle.text_input.proofs.bytes.fill.Statement.{statement}
-use Rattle.text_input.proofs.bytes.fill.Tie as tie
+use Rattle.text_fill.specs.Fill.{fillOf}
+use Rattle.text_fill.proofs.Filling.{fits, filled-is}
+use Rattle.text_fill.proofs.fill.Statement.{statement}
+use Rattle.text_fill.proofs.fill.Tie as tie
 
 clear-requires : tie.Need-clear-to-char-boundary-requires
 clear-requires c κs =

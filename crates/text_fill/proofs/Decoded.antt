@@ -14,7 +14,7 @@ use Rattle.unicode.specs.Chars.{isChar, areChars}
 use Rattle.unicode.specs.Utf8.{encodeOf, encodeAll, charsOf}
 use Rattle.unicode.proofs.Kit.{split, both-true, both}
 use Rattle.unicode.proofs.Texts.{decode-encode}
-use Rattle.text_input.specs.Fill.{takenChars, FillOutcome, fillRefused, filledBytes, fillOf}
+use Rattle.text_fill.specs.Fill.{takenChars, FillOutcome, fillRefused, filledBytes, fillOf}
 
 pub taken-first : (free : ℕ) (queue : List ℕ) → takenChars free queue ≡ take (length (takenChars free queue)) queue
 taken-first free [] = refl

@@ -4,9 +4,9 @@ use mathlib.Core.Path.{sym, _∙_}
 use native.Mathlib.Omega.{arith}
 use lib.ListN.{length, length-set}
 use borrow.Author.Needs.{needs}
-use Rattle.text_input.proofs.Filling.{Zeroing, zero-begin, zero-again, zero-met, zero-ended}
-use Rattle.text_input.proofs.bytes.clear_to_char_boundary.Statement.{statement}
-use Rattle.text_input.proofs.bytes.clear_to_char_boundary.Tie as tie
+use Rattle.text_fill.proofs.Filling.{Zeroing, zero-begin, zero-again, zero-met, zero-ended}
+use Rattle.text_fill.proofs.clear_to_char_boundary.Statement.{statement}
+use Rattle.text_fill.proofs.clear_to_char_boundary.Tie as tie
 
 abbrev Inv-loop : tie.InvT-loop
 Inv-loop buf₀ at i₀ buf i = Zeroing buf₀ at buf i

@@ -18,8 +18,8 @@ use Rattle.unicode.specs.Chars.{isChar, areChars}
 use Rattle.unicode.specs.Utf8.{encodeOf, continuation, encodeAll, withBytes}
 use Rattle.unicode.proofs.Kit.{by-lt, both-true}
 use Rattle.unicode.proofs.Rows.{length-encode}
-use Rattle.text_input.specs.declared.bytes.Filled.the-variants.{Counts}
-use Rattle.text_input.specs.Fill.{takenChars, zeroed, fillOutcome, filledBytes, fillOf}
+use Rattle.text_fill.specs.declared.Filled.the-variants.{Counts}
+use Rattle.text_fill.specs.Fill.{takenChars, zeroed, fillOutcome, filledBytes, fillOf}
 use Rattle.unicode.proofs.Lists.{sets-append, sets-filled}
 
 pub fits : (free : ℕ) (cs : List ℕ) → length (encodeAll (takenChars free cs)) ≤ free

@@ -1,5 +1,6 @@
-// Filling bytes: the part of `read_with_status` in text_input.rs that encodes the queue, and `clear_to_char_boundary`.
-use super::TextInput;
+// Filling bytes from the queue of the scanner: the part of `read_with_status` in text_input.rs that encodes the queue, and
+// `clear_to_char_boundary`. It needs no record.
+use text_input::TextInput;
 use unicode::MAX_UTF8_SIZE;
 use unicode::are_chars;
 use unicode::write_utf8;
@@ -11,7 +12,7 @@ ghost use lib.ListN.{length, take, drop};
 ghost use lib.Seq.{sets};
 ghost use Rattle.unicode.specs.Chars.{areChars};
 ghost use Rattle.unicode.specs.Utf8.{continuation, encodeAll};
-ghost use Rattle.text_input.specs.Fill.{takenChars, zeroed, fillOutcome, fillOf};
+ghost use Rattle.text_fill.specs.Fill.{takenChars, zeroed, fillOutcome, fillOf};
 
 // The characters taken from the queue and the bytes filled, or the number of a refusal.
 pub enum Filled {

@@ -2,9 +2,9 @@
 use Prim.Native.Nat.{_-_}
 use lib.ListN.{length}
 use borrow.Author.Needs.{needs}
-use Rattle.text_input.proofs.Filling.{Encoding, encode-begin, encode-again, encode-full, encode-ended, encode-asks}
-use Rattle.text_input.proofs.bytes.encode_queue.Statement.{statement}
-use Rattle.text_input.proofs.bytes.encode_queue.Tie as tie
+use Rattle.text_fill.proofs.Filling.{Encoding, encode-begin, encode-again, encode-full, encode-ended, encode-asks}
+use Rattle.text_fill.proofs.encode_queue.Statement.{statement}
+use Rattle.text_fill.proofs.encode_queue.Tie as tie
 
 abbrev Inv-loop : tie.InvT-loop
 Inv-loop queue buf₀ i₀ k₀ buf i k = Encoding queue buf₀ buf i k

@@ -8,8 +8,8 @@ use lib.Dec.{ltb}
 use lib.ListN.{length, drop}
 use Rattle.unicode.specs.Chars.{areChars}
 use Rattle.unicode.specs.Utf8.{encodeOf, continuation, encodeAll}
-use Rattle.text_input.specs.declared.bytes.Filled.{Filled}
-use Rattle.text_input.specs.declared.bytes.Filled.the-variants.{Counts, Refused}
+use Rattle.text_fill.specs.declared.Filled.{Filled}
+use Rattle.text_fill.specs.declared.Filled.the-variants.{Counts, Refused}
 
 -- the characters that are encoded, with so many bytes free
 abbrev pub takenChars : ℕ → List ℕ → List ℕ
