@@ -1,5 +1,6 @@
 -- From the check's answer to those of the entry and of `Categorize`. Assumes nothing.
 --     reason-listed        a reason is 0 or one of the listed numbers
+--     ok-only              only Ok lists as 0 alone
 --     accepted, refused    an answer is Ok exactly where the reason is 0
 use Prim.Native.Nat.{ℕ}
 use mathlib.Core.Path.{_≡_, refl, sym, ap, _∙_}
@@ -53,6 +54,10 @@ error-number (Omit c) h = omega arith
 error-number Beyyal h = omega arith
 error-number UnrecognizedEscape h = omega arith
 error-number (Replacement y n) h = omega arith
+
+pub ok-only : (r : Checked) → reasonNumbers r ≡ 0 ∷ [] → r ≡ Ok
+ok-only Ok h = refl
+ok-only (Err e) h = absurd (error-number e (ap head h))
 
 module _ (c : ℕ) (r : Checked) (says-so : reasonNumbers r ≡ checkNumbers c) where
   pub accepted : r ≡ Ok → eqb (reasonOf c) 0 ≡ true

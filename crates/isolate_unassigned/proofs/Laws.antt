@@ -140,7 +140,7 @@ pub isolate-twice : (p cs : List ℕ) → accepted p ≡ true → isolateOf p (i
 isolate-twice p cs a = isolate-of-guarded p (isolateOf p cs) (isolate-guarded p cs a)
 
 -- ---- the answer of these numbers
-abbrev answerOf : List ℕ → Answer
+abbrev pub answerOf : List ℕ → Answer
 answerOf [] = Refused 0
 answerOf (n ∷ []) = Refused n
 answerOf (n ∷ k ∷ ns) = Written k

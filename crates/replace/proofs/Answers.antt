@@ -10,7 +10,7 @@ use Rattle.replace.specs.declared.Answer.the-variants.{Chars, Refused}
 use Rattle.replace.specs.Replace.{replacementNumbers}
 
 -- the answer of these numbers
-abbrev answerOf : List ℕ → Answer
+abbrev pub answerOf : List ℕ → Answer
 answerOf [] = Refused 0
 answerOf (n ∷ []) = Refused n
 answerOf (n ∷ a ∷ []) = Chars (One a)

@@ -76,7 +76,7 @@ pub end-joiner : basicTextEnd 0x34f ≡ true
 end-joiner = sym (end-low 0x34f (omega arith))
 
 -- the answer of these numbers
-abbrev classOf : List ℕ → Class
+abbrev pub classOf : List ℕ → Class
 classOf [] = Refused 0
 classOf (n ∷ []) = Refused n
 classOf (n ∷ b ∷ ns) = Is (eqb b 1)

@@ -102,7 +102,7 @@ module _ (c : ℕ) (buf : List ℕ) (at : ℕ) where
   encode-no p = (simp p, simp p)
 
 -- an answer can be read back from its numbers, so that no two list alike
-abbrev encodedOf : List ℕ → Encoded
+abbrev pub encodedOf : List ℕ → Encoded
 encodedOf [] = Refused 0
 encodedOf (n ∷ []) = Refused n
 encodedOf (n ∷ at ∷ ns) = Next at

@@ -26,7 +26,7 @@ encodeOf c =
     (cond (ltb c 0x10000) ((0xE0 + c / 4096) ∷ (0x80 + c / 64 % 64) ∷ (0x80 + c % 64) ∷ [])
     ((0xF0 + c / 262144) ∷ (0x80 + c / 4096 % 64) ∷ (0x80 + c / 64 % 64) ∷ (0x80 + c % 64) ∷ [])))
 
--- a sequence is an encoding: of some character
+-- the bytes l encode a character
 abbrev pub Encoding : List ℕ → Type 0
 Encoding l = (c : ℕ) × (isChar c ≡ true) × (l ≡ encodeOf c)
 
