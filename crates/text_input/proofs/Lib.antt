@@ -1,7 +1,7 @@
 -- The proofs of this crate. First the readings and what the scanner makes of them: every text has one reading (`Unique`), the scanner
 -- over one piece (`Run`), over a text (`Meaning`), over chunks (`Chunks`) and over streams (`Streams`); the room a call needs (`Room`),
 -- what the queue holds (`Clean`), the shared sets at their bounds (`Pins`), the cases by hand (`Cases`). Then what the functions'
--- contracts rest on. Last that an answer can be read back from its numbers (`Answers`).
+-- contracts rest on.
 pub mod Recognise
 pub mod Cut
 pub mod Unique
@@ -16,4 +16,3 @@ pub mod Cases
 pub mod Kit
 pub mod Loop
 pub mod Calls
-pub mod Answers
