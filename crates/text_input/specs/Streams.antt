@@ -53,6 +53,7 @@ abbrev pub withoutBomFirst : List (List ℕ) → List (List ℕ)
 withoutBomFirst [] = []
 withoutBomFirst (c ∷ cs) = withoutBom c ∷ cs
 
+-- whether a section brings no chunk
 abbrev pub noChunk : List (List ℕ) → Bool
 noChunk [] = true
 noChunk (c ∷ cs) = false
