@@ -17,7 +17,7 @@ use Rattle.unicode.specs.Chars.{filled}
 use Rattle.text_input.specs.declared.Options.{Options}
 use Rattle.text_input.specs.declared.TextInput.{TextInput}
 use Rattle.text_input.specs.declared.step.Step.{Step}
-use Rattle.text_input.specs.Step.{stepOf, outChars}
+use Rattle.text_input.specs.Step.{scanStepOf, outChars}
 use Rattle.text_input.specs.Scan.{outs, ends}
 use Rattle.unicode.proofs.Lists.{sets-filled}
 use Rattle.basic_text.specs.Exports.{bytesOf}
@@ -59,7 +59,7 @@ module _ (p : List ℕ) (o : Options) (cs : List ℕ) (from : ℕ) (queue₀ : L
 
     module _ (c : ℕ) (more : i < length cs) (at : c ≡ getD cs i 0) where
       abbrev now : Step
-      now = stepOf p o r c
+      now = scanStepOf p o r c
 
       left : outs p o r (drop i cs) ≡ outChars now ++ outs p o (now .next) (drop (i + 1) cs)
       left = rw (add-one, drop-cons cs i 0, at)

@@ -11,7 +11,7 @@ use Rattle.text_input.specs.declared.State.{State}
 use Rattle.text_input.specs.declared.State.the-variants.{Ground, Cr, Ff, Esc, CsiStart, Csi, Osc, Linux}
 use Rattle.text_input.specs.declared.Options.{Options}
 use Rattle.text_input.specs.declared.TextInput.{TextInput}
-use Rattle.text_input.specs.Scan.{Outcome, refusedBy, writtenBy}
+use Rattle.text_input.specs.Scan.{Outcome, refusalIn, writtenIn}
 use Rattle.text_output.specs.declared.Mode.{Mode}
 use Rattle.text_output.specs.declared.Mode.the-variants.{Plain, Crlf, Color}
 use Rattle.text_output.specs.declared.Ground.the-variants.{Newline, ZwjOrPrepend, Other}
@@ -108,7 +108,7 @@ recordNumbers r =
 
 -- a call's answer: the number of a refusal, and 0 where it was accepted; how many characters were written; the record after it
 abbrev pub replyOf : Outcome → Reply
-replyOf s = record { refused = refusedBy (s .numbers); written = writtenBy (s .numbers); «record» = recordNumbers (s .next) }
+replyOf s = record { refused = refusalIn (s .numbers); written = writtenIn (s .numbers); «record» = recordNumbers (s .next) }
 
 -- ---- the writer
 -- the modes by number; a number past the last is read as 0. Document 01 leaves this open.

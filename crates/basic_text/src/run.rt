@@ -13,7 +13,7 @@ ghost use lib.ListN.{length, drop};
 ghost use lib.Seq.{sets};
 ghost use Rattle.unicode.specs.Chars.{filled};
 ghost use Rattle.page.specs.Page.{accepted};
-ghost use Rattle.text_input.specs.Step.{stepOf, outChars};
+ghost use Rattle.text_input.specs.Step.{scanStepOf, outChars};
 ghost use Rattle.text_input.specs.Scan.{outs, ends, skipped};
 ghost use Rattle.basic_text.specs.Exports.{numbersOf, bytesOf};
 
@@ -34,10 +34,10 @@ pub fn skips(r: TextInput, chunk: &[u8]) -> usize
 // One character, and its output stored from place k on. Inner: asks for an accepted page and for room.
 fn turn(r: TextInput, page: &[u32], options: Options, c: u32, queue: &mut [u8], k: usize) -> Ran
     requires { ⌜ accepted (now page) ≡ true ⌝ }
-    requires { ⌜ 4 * (k + length (outChars (stepOf (now page) options r c))) ≤ length (now queue) ⌝ }
-    ensures written { λ ran. ⌜ ran .written ≡ k + length (outChars (stepOf (now (page .entry)) options r c)) ⌝ }
-    ensures next { λ ran. ⌜ ran .next ≡ stepOf (now (page .entry)) options r c .next ⌝ }
-    ensures places { λ ran. ⌜ now (queue .exit) ≡ sets (now (queue .entry)) (4 * k) (bytesOf (outChars (stepOf (now (page .entry)) options r c))) ⌝ }
+    requires { ⌜ 4 * (k + length (outChars (scanStepOf (now page) options r c))) ≤ length (now queue) ⌝ }
+    ensures written { λ ran. ⌜ ran .written ≡ k + length (outChars (scanStepOf (now (page .entry)) options r c)) ⌝ }
+    ensures next { λ ran. ⌜ ran .next ≡ scanStepOf (now (page .entry)) options r c .next ⌝ }
+    ensures places { λ ran. ⌜ now (queue .exit) ≡ sets (now (queue .entry)) (4 * k) (bytesOf (outChars (scanStepOf (now (page .entry)) options r c))) ⌝ }
 {
     let mut four = [0u32; 4];
     let ran = r.turn(page, options, c, &mut four, 0);

@@ -107,10 +107,10 @@ unfoldable pub checkNumbers : ℕ → List ℕ
 checkNumbers c = reasonOf c ∷ carried (reasonOf c) c
 
 -- the entry's answer: 0 for accepted, 1 for no character, 4 with the reason's number and values
-abbrev pub answerNumbers : Answer → List ℕ
-answerNumbers Accepted = 0 ∷ []
-answerNumbers NotAChar = 1 ∷ []
-answerNumbers (Refused e) = 4 ∷ errorNumbers e
+abbrev pub checkAnswerNumbers : Answer → List ℕ
+checkAnswerNumbers Accepted = 0 ∷ []
+checkAnswerNumbers NotAChar = 1 ∷ []
+checkAnswerNumbers (Refused e) = 4 ∷ errorNumbers e
 
 -- "Entries on one character give 1 .., the check then 4"
 abbrev pub checkAnswer : ℕ → List ℕ

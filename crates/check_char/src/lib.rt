@@ -5,7 +5,7 @@ use replace::replace;
 use unicode::is_char;
 ghost use mathlib.Core.Path.{_≡_};
 ghost use mathlib.Core.List.{[], _∷_};
-ghost use Rattle.check_char.specs.Check.{reasonOf, threeAndCount, reasonNumbers, checkNumbers, answerNumbers, checkAnswer, categorizedNumbers, categorizeOf};
+ghost use Rattle.check_char.specs.Check.{reasonOf, threeAndCount, reasonNumbers, checkNumbers, checkAnswerNumbers, checkAnswer, categorizedNumbers, categorizeOf};
 
 // The replacements that a reason names, as the Rust's `Box<[char]>`: how many, and three characters, 0 past that many.
 pub struct Replacements {
@@ -207,7 +207,7 @@ pub enum Answer {
 
 // Whether the character c is accepted. Total: refuses 1, then 4 with the reason.
 pub fn check(c: u32) -> Answer
-    ensures { λ r. ⌜ answerNumbers r ≡ checkAnswer c ⌝ }
+    ensures { λ r. ⌜ checkAnswerNumbers r ≡ checkAnswer c ⌝ }
 {
     if is_char(c) {
         let checked = check_basic_text_char(c);

@@ -17,7 +17,7 @@ use Rattle.unicode.specs.Chars.{areChars, filled}
 use Rattle.page.specs.Page.{accepted}
 use Rattle.text_input.specs.declared.Options.{Options}
 use Rattle.text_input.specs.declared.TextInput.{TextInput}
-use Rattle.text_input.specs.Scan.{Outcome, refused, written, wroteBy, refusalOf, scanChars, scanNext, scanOf, finishChars, finishNext, finishOf, opened, skipped}
+use Rattle.text_input.specs.Scan.{Outcome, refused, written, wroteIn, refusalOf, scanChars, scanNext, scanOf, finishChars, finishNext, finishOf, opened, skipped}
 use Rattle.text_input.specs.Streams.{scansChars, scansNext}
 use Rattle.text_input.proofs.Meaning.{ends-count}
 use Rattle.demand.proofs.Holds.{chars-append}
@@ -50,7 +50,7 @@ call-is : (r : TextInput) (c : Call) → callOf r c ≡ outcomeBy (eqb (refusalB
 call-is r (scan p o chunk places) = unfold scanOf in refl
 call-is r (finish eof places) = unfold finishOf in finish-is (ltb (length places) 2) r eof places
 
-wrote-is : (out places : List ℕ) → wroteBy (0 ∷ length out ∷ []) (filled out places) ≡ out
+wrote-is : (out places : List ℕ) → wroteIn (0 ∷ length out ∷ []) (filled out places) ≡ out
 wrote-is out places = take-append-seam out (drop (length out) places)
 
 -- the count after an accepted call
@@ -114,7 +114,7 @@ chars-listed (c ∷ cs) n = chars-by (eqb (refusalBy n c) 0) n c cs refl (λ m. 
 -- ---- where no call is accepted, nothing is written
 none-by : (b : Bool) (c : Call) (cs : List Call) (r : TextInput) (seen : List Outcome) → leftBy b (r .count) c cs ≡ [] →
     (acceptedFrom (r .count) cs ≡ [] → Seen r cs seen → queueOf seen ≡ []) → Seen (outcomeBy b r c .next) cs seen →
-    wroteBy (outcomeBy b r c .numbers) (outcomeBy b r c .places) ++ queueOf seen ≡ []
+    wroteIn (outcomeBy b r c .numbers) (outcomeBy b r c .places) ++ queueOf seen ≡ []
 none-by true c cs r seen h ih g = cons-nil c (acceptedFrom (countWith (r .count) c) cs) h
 none-by false c cs r seen h ih g = ih h g
 
@@ -151,7 +151,7 @@ module _ (page : List ℕ) (options : Options) where
 
   queue-by : (b : Bool) (c : Call) (cs : List Call) (seen : List Outcome) (r : TextInput) → Queued cs seen →
       Seen (outcomeBy b r c .next) cs seen → FinishedOnce page options (leftBy b (r .count) c cs) →
-      wroteBy (outcomeBy b r c .numbers) (outcomeBy b r c .places) ++ queueOf seen ≡ wholeFrom r (chunksOf (leftBy b (r .count) c cs))
+      wroteIn (outcomeBy b r c .numbers) (outcomeBy b r c .places) ++ queueOf seen ≡ wholeFrom r (chunksOf (leftBy b (r .count) c cs))
   queue-by true (scan p o chunk places) cs seen r ih g h =
       let e : p ≡ page = h .0 in
       let d : o ≡ options = h .1 in

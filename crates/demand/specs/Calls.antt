@@ -10,7 +10,7 @@ use Rattle.unicode.specs.Chars.{areChars}
 use Rattle.page.specs.Page.{accepted}
 use Rattle.text_input.specs.declared.Options.{Options}
 use Rattle.text_input.specs.declared.TextInput.{TextInput}
-use Rattle.text_input.specs.Scan.{Outcome, wroteBy, refusalOf, scanOf, finishOf}
+use Rattle.text_input.specs.Scan.{Outcome, wroteIn, refusalOf, scanOf, finishOf}
 use Rattle.text_input.specs.Streams.{withoutBomFirst}
 
 -- ---- the calls
@@ -36,7 +36,7 @@ Seen r (c ∷ calls) (s ∷ seen) = (s ≡ callOf r c) × Seen (s .next) calls s
 -- "The queue joins what each accepted call had written when it returned.": a refused one wrote nothing
 unfoldable pub queueOf : List Outcome → List ℕ
 queueOf [] = []
-queueOf (s ∷ seen) = wroteBy (s .numbers) (s .places) ++ queueOf seen
+queueOf (s ∷ seen) = wroteIn (s .numbers) (s .places) ++ queueOf seen
 
 -- the record that the last call returned
 unfoldable pub recordAfter : TextInput → List Outcome → TextInput

@@ -7,7 +7,7 @@ use mathlib.Core.List.{List, [], _∷_, map}
 use Rattle.ranges.specs.Ranges.{member, rises}
 use Rattle.page.specs.Page.{sized, rising, nonstarter, assigned, accepted}
 use Rattle.text_utils.specs.Classes.{isPrivateUse}
-use Rattle.isolate_unassigned.specs.Isolate.{toIsolate, stepOf, isolateOf}
+use Rattle.isolate_unassigned.specs.Isolate.{toIsolate, isolateStepOf, isolateOf}
 
 abbrev page : List ℕ
 page = 0 ∷ 1 ∷ 0 ∷ 0x377 ∷ []
@@ -31,5 +31,5 @@ table =
     ∷ []
 
 pub examples : (accepted page ≡ true) × (map (λ (row : List ℕ × List ℕ). isolateOf page (row .0)) table ≡ map (λ (row : List ℕ × List ℕ). row .1) table)
-unfolding accepted sized rising rises nonstarter assigned member isPrivateUse toIsolate stepOf isolateOf
+unfolding accepted sized rising rises nonstarter assigned member isPrivateUse toIsolate isolateStepOf isolateOf
 examples = (refl, refl)

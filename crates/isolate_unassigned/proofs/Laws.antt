@@ -1,7 +1,7 @@
 -- What isolation does to any run. Each law is shown of what the steps give from any record on, by the two answers of a step: 34F and
 -- the character, or the character alone. Assumes nothing.
 --     givesOut-size, lastOwed-size    a step gives at most two, and the end one
---     length-isolate      it needs no more places than `placesFor` says
+--     length-isolate      it needs no more places than `placesForRun` says
 --     isolate-puts-in     it puts 34F in, and takes away, changes and moves nothing
 --     isolate-chars       of characters it gives characters
 --     isolate-guarded     by an accepted page, each unassigned character of the result has 34F before it
@@ -24,14 +24,14 @@ use Rattle.isolate_unassigned.specs.declared.Answer.the-variants.{Writte
 use Rattle.isolate_unassigned.specs.declared.IsolateUnassigned.{IsolateUnassigned}
 use Rattle.isolate_unassigned.specs.declared.Isolated.{Isolated}
 use Rattle.isolate_unassigned.specs.declared.Isolated.the-variants.{One, Two}
-use Rattle.isolate_unassigned.specs.Isolate.{toIsolate, recordOf, fresh, puts, stepOf, givesOut, after, lastOwed, outs, isolateOf, placesFor, writtenNumbers}
+use Rattle.isolate_unassigned.specs.Isolate.{toIsolate, isolatorOf, fresh, puts, isolateStepOf, givesOut, after, lastOwed, isolatedFrom, isolateOf, placesForRun, writtenNumbers}
 use Rattle.isolate_unassigned.specs.Meaning.{PutIn, none, kept, put, guarded}
 
 -- a fact of a step, by its two answers
 step-by : (P : Isolated → Type 0) (p : List ℕ) (r : IsolateUnassigned) (c : ℕ)
-    → (puts p r c ≡ true → P (Two 0x34F c (recordOf (toIsolate p c) false)))
-    → (puts p r c ≡ false → P (One c (recordOf false (eqb c 0x34F)))) → P (stepOf p r c)
-unfolding stepOf
+    → (puts p r c ≡ true → P (Two 0x34F c (isolatorOf (toIsolate p c) false)))
+    → (puts p r c ≡ false → P (One c (isolatorOf false (eqb c 0x34F)))) → P (isolateStepOf p r c)
+unfolding isolateStepOf
 step-by P p r c f g = split P (puts p r c) f g
 
 -- ---- the size
@@ -42,24 +42,24 @@ givesOut-size (Two j c next) = omega arith
 pub lastOwed-size : (r : IsolateUnassigned) → length (lastOwed r) ≤ 1
 lastOwed-size r = split (λ (l : List ℕ). length l ≤ 1) (r .«need_cgj») (λ e. omega arith) (λ e. omega arith)
 
-outs-size : (p cs : List ℕ) (r : IsolateUnassigned) → length (outs p r cs) ≤ 2 * length cs + 1
+outs-size : (p cs : List ℕ) (r : IsolateUnassigned) → length (isolatedFrom p r cs) ≤ 2 * length cs + 1
 outs-size p [] r = omega (arith, lastOwed-size r)
 outs-size p (c ∷ cs) r =
-    let s = stepOf p r c in
-    omega (arith, givesOut-size s, outs-size p cs (after s), length-append (givesOut s) (outs p (after s) cs))
+    let s = isolateStepOf p r c in
+    omega (arith, givesOut-size s, outs-size p cs (after s), length-append (givesOut s) (isolatedFrom p (after s) cs))
 
-pub length-isolate : (p cs : List ℕ) → length (isolateOf p cs) ≤ placesFor (length cs)
+pub length-isolate : (p cs : List ℕ) → length (isolateOf p cs) ≤ placesForRun (length cs)
 unfolding isolateOf
 length-isolate p [] = omega arith
 length-isolate p (c ∷ cs) = outs-size p (c ∷ cs) fresh
 
 -- ---- what is put in
-outs-put-in : (p cs : List ℕ) (r : IsolateUnassigned) → PutIn cs (outs p r cs)
+outs-put-in : (p cs : List ℕ) (r : IsolateUnassigned) → PutIn cs (isolatedFrom p r cs)
 outs-put-in p [] r = split (λ (l : List ℕ). PutIn [] l) (r .«need_cgj») (λ e. put none) (λ e. none)
 outs-put-in p (c ∷ cs) r =
-    step-by (λ (s : Isolated). PutIn (c ∷ cs) (givesOut s ++ outs p (after s) cs)) p r c
-    (λ e. put (kept (outs-put-in p cs (recordOf (toIsolate p c) false))))
-    (λ e. kept (outs-put-in p cs (recordOf false (eqb c 0x34F))))
+    step-by (λ (s : Isolated). PutIn (c ∷ cs) (givesOut s ++ isolatedFrom p (after s) cs)) p r c
+    (λ e. put (kept (outs-put-in p cs (isolatorOf (toIsolate p c) false))))
+    (λ e. kept (outs-put-in p cs (isolatorOf false (eqb c 0x34F))))
 
 pub isolate-puts-in : (p cs : List ℕ) → PutIn cs (isolateOf p cs)
 unfolding isolateOf
@@ -103,16 +103,16 @@ module _ (p : List ℕ) (a : toIsolate p 0x34F ≡ false) where
   joiner-guarded : (has : Bool) (ds : List ℕ) → guarded p true ds ≡ true → guarded p has (0x34F ∷ ds) ≡ true
   joiner-guarded has ds h = rw a h
 
-  outs-guarded : (cs : List ℕ) (r : IsolateUnassigned) → guarded p (r .«have_cgj») (outs p r cs) ≡ true
+  outs-guarded : (cs : List ℕ) (r : IsolateUnassigned) → guarded p (r .«have_cgj») (isolatedFrom p r cs) ≡ true
   outs-guarded [] r =
       split (λ (l : List ℕ). guarded p (r .«have_cgj») l ≡ true) (r .«need_cgj») (λ e. joiner-guarded _ [] refl) (λ e. refl)
   outs-guarded (c ∷ cs) r =
-      let ds = outs p (recordOf (toIsolate p c) false) cs in
+      let ds = isolatedFrom p (isolatorOf (toIsolate p c) false) cs in
       let owed = r .«need_cgj» && not (eqb c 0x34F) in
-      step-by (λ (s : Isolated). guarded p (r .«have_cgj») (givesOut s ++ outs p (after s) cs) ≡ true) p r c
+      step-by (λ (s : Isolated). guarded p (r .«have_cgj») (givesOut s ++ isolatedFrom p (after s) cs) ≡ true) p r c
       (λ e. joiner-guarded (r .«have_cgj») (c ∷ ds)
-      (both (or-true (not (toIsolate p c))) (guarded-by-more p ds (eqb c 0x34F) (outs-guarded cs (recordOf (toIsolate p c) false)))))
-      (λ e. both (spared owed (toIsolate p c) (r .«have_cgj») e) (outs-guarded cs (recordOf false (eqb c 0x34F))))
+      (both (or-true (not (toIsolate p c))) (guarded-by-more p ds (eqb c 0x34F) (outs-guarded cs (isolatorOf (toIsolate p c) false)))))
+      (λ e. both (spared owed (toIsolate p c) (r .«have_cgj») e) (outs-guarded cs (isolatorOf false (eqb c 0x34F))))
 
 pub isolate-guarded : (p cs : List ℕ) → accepted p ≡ true → guarded p false (isolateOf p cs) ≡ true
 unfolding isolateOf
@@ -125,8 +125,8 @@ not-put true true h = refl
 not-put true false h = never h
 not-put false has h = refl
 
-outs-of-guarded : (p cs : List ℕ) (has : Bool) → guarded p has cs ≡ true → outs p (recordOf false has) cs ≡ cs
-unfolding stepOf
+outs-of-guarded : (p cs : List ℕ) (has : Bool) → guarded p has cs ≡ true → isolatedFrom p (isolatorOf false has) cs ≡ cs
+unfolding isolateStepOf
 outs-of-guarded p [] has h = refl
 outs-of-guarded p (c ∷ cs) has h =
     let q = both-true (not (toIsolate p c) || has) (guarded p (eqb c 0x34F) cs) h in

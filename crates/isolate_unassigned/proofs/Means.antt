@@ -9,14 +9,14 @@ use lib.Dec.{eqb}
 use borrow.Author.Tests.{eqb-true}
 use Rattle.unicode.proofs.Kit.{never, by}
 use Rattle.page.specs.Page.{accepted}
-use Rattle.isolate_unassigned.specs.Isolate.{toIsolate, recordOf, stepOf, outs, isolateOf}
+use Rattle.isolate_unassigned.specs.Isolate.{toIsolate, isolatorOf, isolateStepOf, isolatedFrom, isolateOf}
 use Rattle.isolate_unassigned.specs.Meaning.{there, gotBefore, getsAfter, isolatedAfter, isolated}
 use Rattle.isolate_unassigned.proofs.Laws.{joiner-assigned}
 
 -- the record after a step that puts 34F before a character is the one that the characters then say. n: the neighbour got 34F before it;
 -- j: the character is 34F; u: it is unassigned; t: the neighbour is 34F
 put-before : (n j u t : Bool) → (j ≡ true → u ≡ false) → (t ≡ true → n ≡ false) → (n && not j) || (u && not t) ≡ true
-    → recordOf u false ≡ recordOf (u && not t) j
+    → isolatorOf u false ≡ isolatorOf (u && not t) j
 put-before n true true t f g h = never (sym (f refl))
 put-before true true false t f g h = never h
 put-before false true false t f g h = never h
@@ -38,8 +38,8 @@ module _ (p : List ℕ) (a : toIsolate p 0x34F ≡ false) where
   got-none [] h = refl
   got-none (c ∷ before) h = rw (joiner-not c h)
 
-  means : (cs before : List ℕ) → outs p (recordOf (gotBefore p before) (there before)) cs ≡ isolatedAfter p before cs
-  unfolding stepOf
+  means : (cs before : List ℕ) → isolatedFrom p (isolatorOf (gotBefore p before) (there before)) cs ≡ isolatedAfter p before cs
+  unfolding isolateStepOf
   means [] before = refl
   means (c ∷ cs) before =
       by (getsAfter p before c || gotBefore p (c ∷ before))

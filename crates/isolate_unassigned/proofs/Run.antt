@@ -18,15 +18,15 @@ use lib.Seq.{sets, sets-eq, drop-cons, drop-length}
 use Rattle.isolate_unassigned.specs.declared.IsolateUnassigned.{IsolateUnassigned}
 use Rattle.isolate_unassigned.specs.declared.Isolated.the-variants.{One, Two}
 use Rattle.unicode.specs.Chars.{filled}
-use Rattle.isolate_unassigned.specs.Isolate.{fresh, stepOf, outs, isolateOf}
+use Rattle.isolate_unassigned.specs.Isolate.{fresh, isolateStepOf, isolatedFrom, isolateOf}
 
 module _ (p cs out₀ : List ℕ) where
   pub record Going (out : List ℕ) (r : IsolateUnassigned) (k i : ℕ) : Type 0 where
     pub low : i ≤ length cs
     pub same : length out ≡ length out₀
     pub room : length (isolateOf p cs) ≤ length out₀
-    pub count : k + length (outs p r (drop i cs)) ≡ length (isolateOf p cs)
-    pub places : sets out k (outs p r (drop i cs)) ≡ filled (isolateOf p cs) out₀
+    pub count : k + length (isolatedFrom p r (drop i cs)) ≡ length (isolateOf p cs)
+    pub places : sets out k (isolatedFrom p r (drop i cs)) ≡ filled (isolateOf p cs) out₀
 
   pub begin : length (isolateOf p cs) ≤ length out₀ → Going out₀ fresh 0 0
   unfolding isolateOf
@@ -40,8 +40,8 @@ module _ (p cs out₀ : List ℕ) where
       }
 
   module _ (out : List ℕ) (r : IsolateUnassigned) (k i : ℕ) (g : Going out r k i) where
-    module _ (c : ℕ) (next : IsolateUnassigned) (more : i < length cs) (e : stepOf p r (getD cs i 0) ≡ One c next) where
-      left-one : outs p r (drop i cs) ≡ c ∷ outs p next (drop (i + 1) cs)
+    module _ (c : ℕ) (next : IsolateUnassigned) (more : i < length cs) (e : isolateStepOf p r (getD cs i 0) ≡ One c next) where
+      left-one : isolatedFrom p r (drop i cs) ≡ c ∷ isolatedFrom p next (drop (i + 1) cs)
       left-one = rw (add-one, drop-cons cs i 0, e)
 
       pub fits-one : k < length out
@@ -57,8 +57,8 @@ module _ (p cs out₀ : List ℕ) where
             places = rw (add-one k) (rw left-one at (g .places));
           }
 
-    module _ (j c : ℕ) (next : IsolateUnassigned) (more : i < length cs) (e : stepOf p r (getD cs i 0) ≡ Two j c next) where
-      left-two : outs p r (drop i cs) ≡ j ∷ c ∷ outs p next (drop (i + 1) cs)
+    module _ (j c : ℕ) (next : IsolateUnassigned) (more : i < length cs) (e : isolateStepOf p r (getD cs i 0) ≡ Two j c next) where
+      left-two : isolatedFrom p r (drop i cs) ≡ j ∷ c ∷ isolatedFrom p next (drop (i + 1) cs)
       left-two = rw (add-one, drop-cons cs i 0, e)
 
       pub fits-two : k + 1 < length out

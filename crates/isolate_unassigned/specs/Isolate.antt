@@ -20,20 +20,20 @@ toIsolate p c = not (assigned p c || isPrivateUse c)
 
 -- ---- the record: `IsolateUnassigned`
 -- by its fields `need_cgj` and `have_cgj`
-abbrev pub recordOf : Bool → Bool → IsolateUnassigned
-recordOf need have = record { «need_cgj» = need; «have_cgj» = have }
+abbrev pub isolatorOf : Bool → Bool → IsolateUnassigned
+isolatorOf need have = record { «need_cgj» = need; «have_cgj» = have }
 
 -- `new`
 abbrev pub fresh : IsolateUnassigned
-fresh = recordOf false false
+fresh = isolatorOf false false
 
 -- whether `next` puts 34F before a character c: one is owed and c is none, or c is to be isolated and none stands before it
 abbrev pub puts : List ℕ → IsolateUnassigned → ℕ → Bool
 puts p r c = (r .«need_cgj» && not (eqb c 0x34F)) || (toIsolate p c && not (r .«have_cgj»))
 
 -- `next` on a character
-unfoldable pub stepOf : List ℕ → IsolateUnassigned → ℕ → Isolated
-stepOf p r c = cond (puts p r c) (Two 0x34F c (recordOf (toIsolate p c) false)) (One c (recordOf false (eqb c 0x34F)))
+unfoldable pub isolateStepOf : List ℕ → IsolateUnassigned → ℕ → Isolated
+isolateStepOf p r c = cond (puts p r c) (Two 0x34F c (isolatorOf (toIsolate p c) false)) (One c (isolatorOf false (eqb c 0x34F)))
 
 -- what a step gives out
 abbrev pub givesOut : Isolated → List ℕ
@@ -51,18 +51,18 @@ lastOwed r = cond (r .«need_cgj») (0x34F ∷ []) []
 
 -- ---- a run
 -- what the iterator gives for the characters cs, from a record on
-abbrev pub outs : List ℕ → IsolateUnassigned → List ℕ → List ℕ
-outs p r [] = lastOwed r
-outs p r (c ∷ cs) = givesOut (stepOf p r c) ++ outs p (after (stepOf p r c)) cs
+abbrev pub isolatedFrom : List ℕ → IsolateUnassigned → List ℕ → List ℕ
+isolatedFrom p r [] = lastOwed r
+isolatedFrom p r (c ∷ cs) = givesOut (isolateStepOf p r c) ++ isolatedFrom p (after (isolateStepOf p r c)) cs
 
 -- the run cs, isolated by the page p
 unfoldable pub isolateOf : List ℕ → List ℕ → List ℕ
-isolateOf p cs = outs p fresh cs
+isolateOf p cs = isolatedFrom p fresh cs
 
 -- "Isolating a run of n characters needs 2 × n + 1 places, an empty one none"
-abbrev pub placesFor : ℕ → ℕ
-placesFor zero = 0
-placesFor (suc n) = 2 * suc n + 1
+abbrev pub placesForRun : ℕ → ℕ
+placesForRun zero = 0
+placesForRun (suc n) = 2 * suc n + 1
 
 -- an answer by document 01's numbers: 0 and how many were written, or the refusal's number
 abbrev pub writtenNumbers : Answer → List ℕ
@@ -72,7 +72,7 @@ writtenNumbers (Refused n) = n ∷ []
 -- "order 2, 1, 8": the number of the refusal, and 0 for none. 2 for a wrong page, 1 for a value that is no character, 8 for too few places
 abbrev pub isolateRefusal : List ℕ → List ℕ → List ℕ → ℕ
 isolateRefusal p cs out =
-    cond (not (accepted p)) 2 (cond (not (areChars cs)) 1 (cond (ltb (length out) (placesFor (length cs))) 8 0))
+    cond (not (accepted p)) 2 (cond (not (areChars cs)) 1 (cond (ltb (length out) (placesForRun (length cs))) 8 0))
 
 -- the answer: 0 and how many were written, or the refusal's number
 abbrev pub isolateAnswer : List ℕ → List ℕ → List ℕ → List ℕ

@@ -12,7 +12,7 @@ ghost use Prim.Native.Nat.{_≤_};
 ghost use lib.ListN.{length};
 ghost use Rattle.unicode.specs.Chars.{areChars, filled};
 ghost use Rattle.page.specs.Page.{accepted};
-ghost use Rattle.isolate_unassigned.specs.Isolate.{toIsolate, fresh, stepOf, placesFor, isolateOf, writtenNumbers, isolateAnswer, isolatePlaces};
+ghost use Rattle.isolate_unassigned.specs.Isolate.{toIsolate, fresh, isolateStepOf, placesForRun, isolateOf, writtenNumbers, isolateAnswer, isolatePlaces};
 
 // Puts 34F around unassigned characters.
 pub struct IsolateUnassigned {
@@ -50,7 +50,7 @@ impl IsolateUnassigned {
     // One character of the run, `next` of the Rust with a character. Inner: asks for an accepted page.
     pub fn step(self, page: &[u32], c: u32) -> Isolated
         requires { ⌜ accepted (now page) ≡ true ⌝ }
-        ensures { λ r. ⌜ r ≡ stepOf (now (page .entry)) self c ⌝ }
+        ensures { λ r. ⌜ r ≡ isolateStepOf (now (page .entry)) self c ⌝ }
     {
         let unassigned = is_unassigned(page, c);
         let have_cgj = c == CGJ;
@@ -90,7 +90,7 @@ pub enum Answer {
 
 // How many places a run asks for. Total: a slice of 32-bit numbers is too short for the sum to wrap.
 fn places_for(chars: &[u32]) -> usize
-    ensures { λ r. ⌜ r ≡ placesFor (length (now (chars .entry))) ⌝ }
+    ensures { λ r. ⌜ r ≡ placesForRun (length (now (chars .entry))) ⌝ }
 {
     if chars.len() == 0 {
         return 0;

@@ -20,7 +20,7 @@ use Rattle.text_input.specs.declared.Options.{Options}
 use Rattle.text_input.specs.declared.TextInput.{TextInput}
 use Rattle.text_input.specs.declared.step.Lead.{Lead}
 use Rattle.text_input.specs.Step.{leadChars, lastOf}
-use Rattle.text_input.specs.Scan.{outs, ends, placesFor, refusalOf, scanRefusal, leadingBom, skipped, opened, outcome, refused, scanOf, pendingOf, afterLine, endMarkOf, newlineOf, finishChars, finishNext, finishOf}
+use Rattle.text_input.specs.Scan.{outs, ends, placesForChunk, refusalOf, scanRefusal, leadingBom, skipped, opened, outcome, refused, scanOf, pendingOf, afterLine, endMarkOf, newlineOf, finishChars, finishNext, finishOf}
 use Rattle.text_input.proofs.Kit.{last-three}
 use Rattle.text_input.proofs.Room.{part-room, ending-room}
 
@@ -53,7 +53,7 @@ module _ (r : TextInput) (p : List ℕ) (o : Options) (chunk queue : List ℕ) (
   refused-is h = rw (← e, ne-eqb n 0 h)
 
   module _ (z : n ≡ 0) where
-    told : (accepted p ≡ true) × (ltb 4294967295 (r .count + length chunk) ≡ false) × (ltb (length queue) (placesFor (length chunk)) ≡ false)
+    told : (accepted p ≡ true) × (ltb 4294967295 (r .count + length chunk) ≡ false) × (ltb (length queue) (placesForChunk (length chunk)) ≡ false)
     unfolding refusalOf
     told = passed (accepted p) (areChars chunk) _ _ (sym e ∙ z)
 
@@ -70,7 +70,7 @@ module _ (r : TextInput) (p : List ℕ) (o : Options) (chunk queue : List ℕ) (
       module _ (fresh : TextInput) (g : fresh ≡ opened r (length chunk)) where
         pub enough : length (outs p o fresh (take (length chunk - from) (drop from chunk))) ≤ length queue
         enough =
-            rw rest (omega (arith, part-room p o fresh from chunk, ltb-false (length queue) (placesFor (length chunk)) (told .2)))
+            rw rest (omega (arith, part-room p o fresh from chunk, ltb-false (length queue) (placesForChunk (length chunk)) (told .2)))
 
         pub accepted-is : (k : ℕ) (next : TextInput) (q : List ℕ) →
             (k ≡ length (outs p o fresh (take (length chunk - from) (drop from chunk))))

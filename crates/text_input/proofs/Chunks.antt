@@ -23,7 +23,7 @@ use Rattle.text_input.specs.declared.step.Left.the-variants.{Part, Newli
 use Rattle.text_input.specs.declared.step.Met.{Met}
 use Rattle.text_input.specs.declared.step.Met.the-variants.{Line, Opens, Other}
 use Rattle.text_input.specs.declared.step.Step.{Step}
-use Rattle.text_input.specs.Step.{metOf, leftOf, leaveOf, meetOf, stepOf}
+use Rattle.text_input.specs.Step.{metOf, leftOf, leaveOf, meetOf, scanStepOf}
 use Rattle.text_input.specs.Scan.{outs, ends, opened, leadingBom, skipped, scanChars, scanNext}
 use Rattle.text_input.specs.Streams.{scansChars, scansNext, withoutBom}
 use Rattle.text_input.proofs.Meaning.{ends-start}
@@ -32,11 +32,11 @@ use Rattle.text_input.proofs.Meaning.{ends-start}
 pub outs-append : (p : List ℕ) (o : Options) (r : TextInput) (t u : List ℕ) →
     outs p o r (t ++ u) ≡ outs p o r t ++ outs p o (ends p o r t) u
 outs-append p o r [] u = refl
-outs-append p o r (c ∷ t) u = simp (outs-append p o (stepOf p o r c .next) t u, append-assoc)
+outs-append p o r (c ∷ t) u = simp (outs-append p o (scanStepOf p o r c .next) t u, append-assoc)
 
 pub ends-append : (p : List ℕ) (o : Options) (r : TextInput) (t u : List ℕ) → ends p o r (t ++ u) ≡ ends p o (ends p o r t) u
 ends-append p o r [] u = refl
-ends-append p o r (c ∷ t) u = ends-append p o (stepOf p o r c .next) t u
+ends-append p o r (c ∷ t) u = ends-append p o (scanStepOf p o r c .next) t u
 
 -- ---- what a run does not see
 -- the record with this `at_start` and this count
@@ -63,18 +63,18 @@ module _ (p : List ℕ) (o : Options) where
   left-marked r start count c Dropped = met-marked r start count c Nothing false (meetOf o c)
 
   step-marked : (r : TextInput) (start : Bool) (count c : ℕ) →
-      stepOf p o (marked r start count) c ≡ markedStep (stepOf p o r c) start count
-  unfolding stepOf
+      scanStepOf p o (marked r start count) c ≡ markedStep (scanStepOf p o r c) start count
+  unfolding scanStepOf
   step-marked r start count c = left-marked r start count c (leaveOf (r .state) c)
 
   pub outs-marked : (r : TextInput) (start : Bool) (count : ℕ) (t : List ℕ) → outs p o (marked r start count) t ≡ outs p o r t
   outs-marked r start count [] = refl
-  outs-marked r start count (c ∷ t) = rw (step-marked r start count c, outs-marked (stepOf p o r c .next) start count t)
+  outs-marked r start count (c ∷ t) = rw (step-marked r start count c, outs-marked (scanStepOf p o r c .next) start count t)
 
   pub ends-marked : (r : TextInput) (start : Bool) (count : ℕ) (t : List ℕ) →
       ends p o (marked r start count) t ≡ marked (ends p o r t) start count
   ends-marked r start count [] = refl
-  ends-marked r start count (c ∷ t) = rw (step-marked r start count c) (ends-marked (stepOf p o r c .next) start count t)
+  ends-marked r start count (c ∷ t) = rw (step-marked r start count c) (ends-marked (scanStepOf p o r c .next) start count t)
 
   -- ---- one scan, where the chunk without a dropped U+FEFF is t
   spent : (r : TextInput) → r .«at_start» ≡ false → (c : List ℕ) → drop (skipped r c) c ≡ c

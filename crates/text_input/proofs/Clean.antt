@@ -31,7 +31,7 @@ use Rattle.text_input.specs.declared.step.Left.{Left}
 use Rattle.text_input.specs.declared.step.Left.the-variants.{Part, Newline, Goes, After, Dropped}
 use Rattle.text_input.specs.declared.step.Met.{Met}
 use Rattle.text_input.specs.declared.step.Met.the-variants.{Line, Opens, Other}
-use Rattle.text_input.specs.Step.{leadChars, imageChars, outChars, firstChar, lastOf, leaveOf, meetOf, guardOf, metOf, leftOf, stepOf}
+use Rattle.text_input.specs.Step.{leadChars, imageChars, outChars, firstChar, lastOf, leaveOf, meetOf, guardOf, metOf, leftOf, scanStepOf}
 use Rattle.text_input.specs.Scan.{outs, ends, skipped, opened, scanChars, scanNext, pendingOf, afterLine, endMarkOf, newlineOf, finishChars}
 use Rattle.text_input.proofs.Room.{Given, given-pending}
 
@@ -89,8 +89,8 @@ module _ (f : ℕ → Bool) (pass : Passes f) where
     left-pass r c (After a) h char = met-pass r c (Char a) false (meetOf o c) refl char (rw h at (pending-pass (r .state)))
     left-pass r c Dropped h char = met-pass r c Nothing false (meetOf o c) refl char tt
 
-    step-pass : (r : TextInput) (c : ℕ) → isChar c ≡ true → T (all f (outChars (stepOf p o r c)))
-    unfolding stepOf
+    step-pass : (r : TextInput) (c : ℕ) → isChar c ≡ true → T (all f (outChars (scanStepOf p o r c)))
+    unfolding scanStepOf
     step-pass r c char = left-pass r c (leaveOf (r .state) c) (given-pending (r .state) c) char
 
     -- ---- a run
@@ -98,8 +98,8 @@ module _ (f : ℕ → Bool) (pass : Passes f) where
     run-pass r [] h = tt
     run-pass r (c ∷ cs) h =
         let g = both-true (isChar c) (areChars cs) h in
-        append f (outChars (stepOf p o r c)) (outs p o (stepOf p o r c .next) cs) (step-pass r c (g .0))
-        (run-pass (stepOf p o r c .next) cs (g .1))
+        append f (outChars (scanStepOf p o r c)) (outs p o (scanStepOf p o r c .next) cs) (step-pass r c (g .0))
+        (run-pass (scanStepOf p o r c .next) cs (g .1))
 
   -- ---- a finish
   finish-pass : (r : TextInput) (eof : Bool) → T (all f (finishChars r eof))

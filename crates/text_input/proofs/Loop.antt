@@ -17,7 +17,7 @@ use Rattle.unicode.specs.Chars.{filled}
 use Rattle.text_input.specs.declared.Options.{Options}
 use Rattle.text_input.specs.declared.TextInput.{TextInput}
 use Rattle.text_input.specs.declared.step.Step.{Step}
-use Rattle.text_input.specs.Step.{stepOf, outChars}
+use Rattle.text_input.specs.Step.{scanStepOf, outChars}
 use Rattle.text_input.specs.Scan.{outs, ends}
 use Rattle.unicode.proofs.Lists.{sets-append, sets-filled}
 
@@ -44,7 +44,7 @@ module _ (p : List ℕ) (o : Options) (chunk queue₀ : List ℕ) (r₀ : TextIn
 
     module _ (more : i < length chunk) where
       abbrev now : Step
-      now = stepOf p o r (getD chunk i 0)
+      now = scanStepOf p o r (getD chunk i 0)
 
       left : outs p o r (drop i chunk) ≡ outChars now ++ outs p o (now .next) (drop (i + 1) chunk)
       left = rw (add-one, drop-cons chunk i 0)

@@ -31,7 +31,7 @@ use Rattle.text_input.specs.declared.step.Met.the-variants.{Line, Opens,
 use Rattle.text_input.specs.declared.step.Step.{Step}
 use Rattle.text_input.specs.Sets.{newlineChar, optionalLine}
 use Rattle.text_input.specs.Step.{outChars, leadChars, imageChars, lastOf, guardOf, madeOf, metOf, leftOf, leaveOf, meetOf}
-use Rattle.text_input.specs.Step.{stepOf}
+use Rattle.text_input.specs.Step.{scanStepOf}
 use Rattle.text_input.specs.Scan.{outs, ends, endMarkOf, newlineOf, finishChars, finishNext, afterLine}
 use Rattle.text_input.specs.Pieces.{isLine, lineChar, Piece, join, LongestPiece, EachLongest, Reading, pieceImage, image}
 use Rattle.text_input.specs.Pieces.{startMark}
@@ -112,7 +112,7 @@ module _ (p : List ℕ) (o : Options) (eof start : Bool) (count : ℕ) where
   opened-by : accepted p ≡ true → (b : Bool) (c : ℕ) (t : List ℕ) (e : Bool) (n : ℕ) (d f g a z : Bool) →
       eqb c 0x0D ≡ d → eqb c 0x0C ≡ f → eqb c 0x1B ≡ g → eqb c 0x0A ≡ a → optionalLine o c ≡ z →
       from (c ∷ t) (Ground b) e n ≡ opened (class o c) c e n t
-  unfolding complete stepOf leaveOf meetOf class lineChar newlineChar opened pieceImage
+  unfolding complete scanStepOf leaveOf meetOf class lineChar newlineChar opened pieceImage
   opened-by good b c t e n true f g a z hd hf hg ha hz = rw (eqb-true c 0x0D hd)
   opened-by good b c t e n false true g a z hd hf hg ha hz = rw (eqb-true c 0x0C hf)
   opened-by good b c t e n false false true a z hd hf hg ha hz = rw (eqb-true c 0x1B hg)
@@ -179,7 +179,7 @@ module _ (p : List ℕ) (o : Options) (eof start : Bool) (count : ℕ) where
       ≡ record { out = outs p o r t ++ finishChars (ends p o r t) eof; line = afterLine (ends p o r t .state) }
   unfolding complete
   complete-scan [] r = refl
-  complete-scan (c ∷ t) r = simp (complete-scan t (stepOf p o r c .next), append-assoc)
+  complete-scan (c ∷ t) r = simp (complete-scan t (scanStepOf p o r c .next), append-assoc)
 
 -- ---- what a step keeps
 record Keeps (r : TextInput) (s : Step) : Type 0 where
@@ -203,25 +203,25 @@ left-keeps p o r c Goes = met-keeps p r c Nothing (r .«expect_starter») (meetO
 left-keeps p o r c (After a) = met-keeps p r c (Char a) false (meetOf o c)
 left-keeps p o r c Dropped = met-keeps p r c Nothing false (meetOf o c)
 
-step-keeps : (p : List ℕ) (o : Options) (r : TextInput) (c : ℕ) → Keeps r (stepOf p o r c)
-unfolding stepOf
+step-keeps : (p : List ℕ) (o : Options) (r : TextInput) (c : ℕ) → Keeps r (scanStepOf p o r c)
+unfolding scanStepOf
 step-keeps p o r c = left-keeps p o r c (leaveOf (r .state) c)
 
 pub ends-last : (p : List ℕ) (o : Options) (r : TextInput) (t : List ℕ) → ends p o r t .last ≡ lastOf (r .last) (outs p o r t)
 ends-last p o r [] = refl
 ends-last p o r (c ∷ t) =
-    let s = stepOf p o r c in
+    let s = scanStepOf p o r c in
     ends-last p o (s .next) t
     ∙ ap (λ n. lastOf n (outs p o (s .next) t)) (step-keeps p o r c .last)
     ∙ (last-append (r .last) (outChars s) (outs p o (s .next) t))
 
 pub ends-start : (p : List ℕ) (o : Options) (r : TextInput) (t : List ℕ) → ends p o r t .«at_start» ≡ r .«at_start»
 ends-start p o r [] = refl
-ends-start p o r (c ∷ t) = ends-start p o (stepOf p o r c .next) t ∙ step-keeps p o r c .start
+ends-start p o r (c ∷ t) = ends-start p o (scanStepOf p o r c .next) t ∙ step-keeps p o r c .start
 
 pub ends-count : (p : List ℕ) (o : Options) (r : TextInput) (t : List ℕ) → ends p o r t .count ≡ r .count
 ends-count p o r [] = refl
-ends-count p o r (c ∷ t) = ends-count p o (stepOf p o r c .next) t ∙ step-keeps p o r c .count
+ends-count p o r (c ∷ t) = ends-count p o (scanStepOf p o r c .next) t ∙ step-keeps p o r c .count
 
 -- ---- THE SECTION
 -- the image of the pieces, with 34F before it where a start is expected; then what the finish adds

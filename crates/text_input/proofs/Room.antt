@@ -33,8 +33,8 @@ use Rattle.text_input.specs.declared.step.Met.{Met}
 use Rattle.text_input.specs.declared.step.Met.the-variants.{Line, Opens, Other}
 use Rattle.text_input.specs.declared.step.Step.{Step}
 use Rattle.text_input.specs.Sets.{parameter, final, stringEnd, upTo7F, newlineChar}
-use Rattle.text_input.specs.Step.{leadChars, imageChars, outChars, firstChar, lastOf, csiLeave, leaveOf, meetOf, guardOf, metOf, leftOf, stepOf}
-use Rattle.text_input.specs.Scan.{outs, placesFor, skipped, opened, scanChars, pendingOf, afterLine, endMarkOf, newlineOf, finishChars}
+use Rattle.text_input.specs.Step.{leadChars, imageChars, outChars, firstChar, lastOf, csiLeave, leaveOf, meetOf, guardOf, metOf, leftOf, scanStepOf}
+use Rattle.text_input.specs.Scan.{outs, placesForChunk, skipped, opened, scanChars, pendingOf, afterLine, endMarkOf, newlineOf, finishChars}
 
 -- ---- what a record owes
 abbrev bit : Bool → ℕ
@@ -124,22 +124,22 @@ module _ (p : List ℕ) (o : Options) (r : TextInput) where
       met-cost p r c (owed r) (Char a) false (meetOf o c) (omega (arith, owes-pending (r .state) (r .«expect_starter»))) (omega arith)
   left-cost c Dropped h = met-cost p r c (owed r) Nothing false (meetOf o c) (omega arith) (omega arith)
 
-  step-cost : (c : ℕ) → cost (stepOf p o r c) ≤ 3 + owed r
-  unfolding stepOf
+  step-cost : (c : ℕ) → cost (scanStepOf p o r c) ≤ 3 + owed r
+  unfolding scanStepOf
   step-cost c = left-cost c (leaveOf (r .state) c) (given-pending (r .state) c)
 
 out-length : (s : Step) → length (outChars s) ≡ length (leadChars (s .lead)) + length (imageChars (s .image))
 out-length s = length-append (leadChars (s .lead)) (imageChars (s .image))
 
-pub step-room : (p : List ℕ) (o : Options) (r : TextInput) (c : ℕ) → length (outChars (stepOf p o r c)) ≤ 4
+pub step-room : (p : List ℕ) (o : Options) (r : TextInput) (c : ℕ) → length (outChars (scanStepOf p o r c)) ≤ 4
 step-room p o r c =
-    omega (arith, out-length (stepOf p o r c), step-cost p o r c, owes-one (r .state) (r .«expect_starter»))
+    omega (arith, out-length (scanStepOf p o r c), step-cost p o r c, owes-one (r .state) (r .«expect_starter»))
 
 -- ---- a run
 run-cost : (p : List ℕ) (o : Options) (r : TextInput) (cs : List ℕ) → length (outs p o r cs) ≤ 3 * length cs + owed r
 run-cost p o r [] = omega arith
 run-cost p o r (c ∷ cs) =
-    let s : Step = stepOf p o r c in
+    let s : Step = scanStepOf p o r c in
     omega (
       arith,
       length-append (outChars s) (outs p o (s .next) cs),
@@ -151,23 +151,23 @@ run-cost p o r (c ∷ cs) =
 pub room : (p : List ℕ) (o : Options) (r : TextInput) (cs : List ℕ) → length (outs p o r cs) ≤ 3 * length cs + 1
 room p o r cs = omega (arith, run-cost p o r cs, owes-one (r .state) (r .«expect_starter»))
 
-pub run-room : (p : List ℕ) (o : Options) (r : TextInput) (cs : List ℕ) → length (outs p o r cs) ≤ placesFor (length cs)
+pub run-room : (p : List ℕ) (o : Options) (r : TextInput) (cs : List ℕ) → length (outs p o r cs) ≤ placesForChunk (length cs)
 run-room p o r [] = omega arith
 run-room p o r (c ∷ cs) = omega (arith, room p o r (c ∷ cs))
 
 -- fewer characters need no more places
-fewer : (m n : ℕ) → m ≤ n → placesFor m ≤ placesFor n
+fewer : (m n : ℕ) → m ≤ n → placesForChunk m ≤ placesForChunk n
 fewer zero n h = omega arith
 fewer (suc m) zero h = omega arith
 fewer (suc m) (suc n) h = omega arith
 
 pub part-room : (p : List ℕ) (o : Options) (r : TextInput) (n : ℕ) (cs : List ℕ) →
-    length (outs p o r (drop n cs)) ≤ placesFor (length cs)
+    length (outs p o r (drop n cs)) ≤ placesForChunk (length cs)
 part-room p o r n cs =
     omega (arith, run-room p o r (drop n cs), fewer (length (drop n cs)) (length cs) (omega (arith, length-drop n cs)))
 
 pub scan-room : (p : List ℕ) (o : Options) (r : TextInput) (chunk : List ℕ) →
-    length (scanChars p o r chunk) ≤ placesFor (length chunk)
+    length (scanChars p o r chunk) ≤ placesForChunk (length chunk)
 scan-room p o r chunk = part-room p o (opened r (length chunk)) (skipped r chunk) chunk
 
 -- ---- a finish: a pending character is 0A or 20, which are ends, so that no 34F follows it

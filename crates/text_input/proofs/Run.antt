@@ -27,7 +27,7 @@ use Rattle.text_input.specs.declared.step.Met.{Met}
 use Rattle.text_input.specs.declared.step.Met.the-variants.{Line, Opens, Other}
 use Rattle.text_input.specs.declared.step.Step.{Step}
 use Rattle.text_input.specs.Sets.{parameter, final, stringEnd, upTo7F, newlineChar}
-use Rattle.text_input.specs.Step.{outChars, lastOf, metOf, leftOf, leaveOf, meetOf, stepOf}
+use Rattle.text_input.specs.Step.{outChars, lastOf, metOf, leftOf, leaveOf, meetOf, scanStepOf}
 use Rattle.text_input.specs.Scan.{finishChars, afterLine}
 use Rattle.text_input.specs.Pieces.{Kind, escape, isLine, stringChar, pieceImage, pageImage}
 use Rattle.text_input.proofs.Recognise.{false-true, cond-id}
@@ -91,7 +91,7 @@ module _ (p : List ℕ) (o : Options) (eof start : Bool) (count : ℕ) where
   -- the text, and then the finish
   unfoldable pub complete : List ℕ → TextInput → Closed
   complete [] r = record { out = finishChars r eof; line = afterLine (r .state) }
-  complete (c ∷ t) r = pre (outChars (stepOf p o r c)) (complete t (stepOf p o r c .next))
+  complete (c ∷ t) r = pre (outChars (scanStepOf p o r c)) (complete t (scanStepOf p o r c .next))
 
   -- after a piece with image w
   unfoldable pub told : Bool → List ℕ → Bool → ℕ → List ℕ → Closed
@@ -140,23 +140,23 @@ module _ (p : List ℕ) (o : Options) (eof start : Bool) (count : ℕ) where
   met-after Other s z d e n c a t = refl
 
   leave-goes : (i : Inner) (b e : Bool) (n c : ℕ) (t : List ℕ) → leave i e n c t Goes ≡ complete (c ∷ t) (at (Ground b) e n)
-  unfolding leave resume complete stepOf leaveOf
+  unfolding leave resume complete scanStepOf leaveOf
   leave-goes i b e n c t = rw (met-any (meetOf o c) (stateOf i) (Ground b) e e e n c Nothing)
 
   leave-dropped : (i : Inner) (b e : Bool) (n c : ℕ) (t : List ℕ) →
       leave i e n c t Dropped ≡ complete (c ∷ t) (at (Ground b) false n)
-  unfolding leave resume complete stepOf leaveOf
+  unfolding leave resume complete scanStepOf leaveOf
   leave-dropped i b e n c t = rw (met-any (meetOf o c) (stateOf i) (Ground b) e false false n c Nothing)
 
   leave-after : (i : Inner) (b e : Bool) (n c a : ℕ) (t : List ℕ) →
       leave i e n c t (After a) ≡ pre (a ∷ []) (complete (c ∷ t) (at (Ground b) false a))
-  unfolding leave complete stepOf leaveOf
+  unfolding leave complete scanStepOf leaveOf
   leave-after i b e n c a t = met-after (meetOf o c) (stateOf i) (Ground b) e false n c a t ∙ unfold resume in refl
 
   -- ---- where an expectation does not matter
   complete-inside : (i : Inner) (e : Bool) (n c : ℕ) (t : List ℕ) →
       complete (c ∷ t) (at (stateOf i) e n) ≡ leave i e n c t (leaveOf (stateOf i) c)
-  unfolding complete stepOf leave resume
+  unfolding complete scanStepOf leave resume
   complete-inside i e n c t = refl
 
   cr-leave : (c : ℕ) (t : List ℕ) (d e : Bool) (n : ℕ) → leave cr d n c t (leaveOf Cr c) ≡ leave cr e n c t (leaveOf Cr c)
@@ -175,7 +175,7 @@ module _ (p : List ℕ) (o : Options) (eof start : Bool) (count : ℕ) where
   -- an escape at the ground state, also from within another
   at-esc : (c : ℕ) (t : List ℕ) (e : Bool) (n : ℕ) → eqb c 0x1B ≡ true →
       complete t (at Esc e n) ≡ complete (c ∷ t) (at (Ground false) e n)
-  unfolding complete stepOf leaveOf meetOf
+  unfolding complete scanStepOf leaveOf meetOf
   at-esc c t e n h = rw (eqb-true c 0x1B h)
 
   -- ---- a step within a piece, as the walk has it
@@ -223,10 +223,10 @@ module _ (p : List ℕ) (o : Options) (eof start : Bool) (count : ℕ) where
       cond (y || x) (leave ff e n c t Dropped) (leave ff e n c t (After 0x20)) ≡ follow ff stops e n c t
   unfolding follow onward told pieceImage pageImage newlineChar
   run-ff good c t e n true x h g =
-      leave-dropped ff false e n c t ∙ rw (eqb-true c 0x0A h) (unfold complete stepOf leaveOf meetOf guard expectAfter in refl)
+      leave-dropped ff false e n c t ∙ rw (eqb-true c 0x0A h) (unfold complete scanStepOf leaveOf meetOf guard expectAfter in refl)
   run-ff good c t e n false true h g =
       leave-dropped ff false e n c t
-      ∙ rw (eqb-true c 0x0D g) (unfold complete stepOf leaveOf meetOf guard expectAfter in rw (cr-expect t false e n))
+      ∙ rw (eqb-true c 0x0D g) (unfold complete scanStepOf leaveOf meetOf guard expectAfter in rw (cr-expect t false e n))
   run-ff good c t e n false false h g =
       leave-after ff false e n c 0x20 t ∙ rw (h, g, guard-space good e) (unfold expectAfter in refl)
 

@@ -8,7 +8,7 @@ use lib.ListN.{replicate}
 use Rattle.isolate_unassigned.specs.Isolate.{isolateAnswer, isolatePlaces}
 use Rattle.text_input.specs.declared.Options.{Options}
 use Rattle.text_input.specs.declared.TextInput.{TextInput}
-use Rattle.text_input.specs.Scan.{Outcome, refusedBy, wroteBy, fresh, scanOf, finishOf}
+use Rattle.text_input.specs.Scan.{Outcome, refusalIn, wroteIn, fresh, scanOf, finishOf}
 
 -- what is run: scans of these chunks and a finish as end of file, from a fresh record; or the isolation of a run
 pub data Trial : Type 0 where
@@ -35,7 +35,7 @@ lent room = replicate room 0xEEEEEEEE
 -- ---- what a row's calls give
 -- by an answer's numbers and the places after
 abbrev pub told : List ℕ → List ℕ → List ℕ
-told ns places = refusedBy ns ∷ wroteBy ns places
+told ns places = refusalIn ns ∷ wroteIn ns places
 
 abbrev pub callTold : Outcome → List ℕ
 callTold s = told (s .numbers) (s .places)

@@ -16,7 +16,7 @@ use Rattle.text_input.specs.declared.TextInput.{TextInput}
 use Rattle.text_input.specs.declared.Scanned.{Scanned}
 use Rattle.text_input.specs.declared.step.Lead.{Lead}
 use Rattle.text_input.specs.declared.step.Lead.the-variants.{Nothing, Char}
-use Rattle.text_input.specs.Step.{stepOf, outChars, leadChars, lastOf}
+use Rattle.text_input.specs.Step.{scanStepOf, outChars, leadChars, lastOf}
 
 -- "A fresh record is one as first made"; its last character is an end, so that a finish adds no 34F to an empty text
 abbrev pub fresh : TextInput
@@ -26,12 +26,12 @@ fresh = record { state = Ground true; «expect_starter» = true; «at_start» = 
 -- what it appends
 abbrev pub outs : List ℕ → Options → TextInput → List ℕ → List ℕ
 outs p o r [] = []
-outs p o r (c ∷ cs) = outChars (stepOf p o r c) ++ outs p o (stepOf p o r c .next) cs
+outs p o r (c ∷ cs) = outChars (scanStepOf p o r c) ++ outs p o (scanStepOf p o r c .next) cs
 
 -- the record after it
 abbrev pub ends : List ℕ → Options → TextInput → List ℕ → TextInput
 ends p o r [] = r
-ends p o r (c ∷ cs) = ends p o (stepOf p o r c .next) cs
+ends p o r (c ∷ cs) = ends p o (scanStepOf p o r c .next) cs
 
 -- ---- a call's answer by document 01's numbers, the record after it, and the lent places as it returns
 -- The answer of a scan or a finish is the enum of `isolate_unassigned`, which `writtenNumbers` lists: 0 and how many characters were
@@ -54,28 +54,28 @@ abbrev pub written : TextInput → List ℕ → List ℕ → Outcome
 written next out queue = record { numbers = 0 ∷ length out ∷ []; next = next; places = filled out queue }
 
 -- by an answer's numbers: the number of the refusal, and 0 for none
-abbrev pub refusedBy : List ℕ → ℕ
-refusedBy ns = getD ns 0 0
+abbrev pub refusalIn : List ℕ → ℕ
+refusalIn ns = getD ns 0 0
 
 -- how many characters were written, and 0 where the call was refused
-abbrev pub writtenBy : List ℕ → ℕ
-writtenBy ns = getD ns 1 0
+abbrev pub writtenIn : List ℕ → ℕ
+writtenIn ns = getD ns 1 0
 
 -- what was written: so many of the first places
-abbrev pub wroteBy : List ℕ → List ℕ → List ℕ
-wroteBy ns places = take (writtenBy ns) places
+abbrev pub wroteIn : List ℕ → List ℕ → List ℕ
+wroteIn ns places = take (writtenIn ns) places
 
 -- ---- a scan
 -- "A chunk of n characters needs 3 × n + 1 free places, an empty one none."
-abbrev pub placesFor : ℕ → ℕ
-placesFor zero = 0
-placesFor (suc n) = 3 * suc n + 1
+abbrev pub placesForChunk : ℕ → ℕ
+placesForChunk zero = 0
+placesForChunk (suc n) = 3 * suc n + 1
 
 -- "Order: 2, 1, 10, 8." The number of the refusal, and 0 for none, by the record's count, whether the page is accepted, whether
 -- every value is a character, how many these are, and the free places. "10 the count would pass 4,294,967,295."
 unfoldable pub refusalOf : ℕ → Bool → Bool → ℕ → ℕ → ℕ
 refusalOf count page chars n room =
-    cond (not page) 2 (cond (not chars) 1 (cond (ltb 4294967295 (count + n)) 10 (cond (ltb room (placesFor n)) 8 0)))
+    cond (not page) 2 (cond (not chars) 1 (cond (ltb 4294967295 (count + n)) 10 (cond (ltb room (placesForChunk n)) 8 0)))
 
 abbrev pub scanRefusal : TextInput → List ℕ → List ℕ → ℕ → ℕ
 scanRefusal r p chunk room = refusalOf (r .count) (accepted p) (areChars chunk) (length chunk) room

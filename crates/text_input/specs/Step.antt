@@ -122,5 +122,5 @@ leftOf p o r c (After a) = groundOf p o r c (Char a) false
 leftOf p o r c Dropped = groundOf p o r c Nothing false
 
 -- the step on c by the page p and the options o
-unfoldable pub stepOf : List ℕ → Options → TextInput → ℕ → Step
-stepOf p o r c = leftOf p o r c (leaveOf (r .state) c)
+unfoldable pub scanStepOf : List ℕ → Options → TextInput → ℕ → Step
+scanStepOf p o r c = leftOf p o r c (leaveOf (r .state) c)

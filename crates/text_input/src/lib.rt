@@ -24,8 +24,8 @@ ghost use lib.ListN.{length};
 ghost use lib.Seq.{sets};
 ghost use Rattle.unicode.specs.Chars.{filled};
 ghost use Rattle.page.specs.Page.{accepted};
-ghost use Rattle.text_input.specs.Step.{stepOf, outChars};
-ghost use Rattle.text_input.specs.Scan.{fresh, outs, ends, placesFor, refusalOf, skipped, opened, outcome, scanOf, pendingOf, afterLine, endMarkOf, newlineOf, finishOf};
+ghost use Rattle.text_input.specs.Step.{scanStepOf, outChars};
+ghost use Rattle.text_input.specs.Scan.{fresh, outs, ends, placesForChunk, refusalOf, skipped, opened, outcome, scanOf, pendingOf, afterLine, endMarkOf, newlineOf, finishOf};
 
 // What the characters so far leave open. `Ground`: nothing; its flag is true after a newline, and before the first character.
 pub enum State {
@@ -97,10 +97,10 @@ impl TextInput {
     // One character, and its output stored from a place on. Inner: asks for an accepted page and for room.
     pub fn turn(self, page: &[u32], options: Options, c: u32, queue: &mut [u32], at: usize) -> Ran
         requires { ⌜ accepted (now page) ≡ true ⌝ }
-        requires { ⌜ at + length (outChars (stepOf (now page) options self c)) ≤ length (now queue) ⌝ }
-        ensures written { λ r. ⌜ r .written ≡ at + length (outChars (stepOf (now (page .entry)) options self c)) ⌝ }
-        ensures next { λ r. ⌜ r .next ≡ stepOf (now (page .entry)) options self c .next ⌝ }
-        ensures places { λ r. ⌜ now (queue .exit) ≡ sets (now (queue .entry)) at (outChars (stepOf (now (page .entry)) options self c)) ⌝ }
+        requires { ⌜ at + length (outChars (scanStepOf (now page) options self c)) ≤ length (now queue) ⌝ }
+        ensures written { λ r. ⌜ r .written ≡ at + length (outChars (scanStepOf (now (page .entry)) options self c)) ⌝ }
+        ensures next { λ r. ⌜ r .next ≡ scanStepOf (now (page .entry)) options self c .next ⌝ }
+        ensures places { λ r. ⌜ now (queue .exit) ≡ sets (now (queue .entry)) at (outChars (scanStepOf (now (page .entry)) options self c)) ⌝ }
     {
         let step = self.step(page, options, c);
         let written = put(queue, at, step);
@@ -224,7 +224,7 @@ impl TextInput {
 
 // Whether so many places are enough for n characters. The test is 3 × n + 1 ≤ room without a product that could wrap.
 fn has_room(n: usize, room: usize) -> bool
-    ensures { λ r. ⌜ r ≡ leb (placesFor n) room ⌝ }
+    ensures { λ r. ⌜ r ≡ leb (placesForChunk n) room ⌝ }
 {
     if n == 0 {
         return true;

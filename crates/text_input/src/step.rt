@@ -21,7 +21,7 @@ ghost use mathlib.Core.Bool.{true};
 ghost use Rattle.replace.specs.Replace.{chars};
 ghost use Rattle.page.specs.Page.{accepted};
 ghost use Rattle.text_input.specs.Sets.{parameter, final, stringEnd, upTo7F, newlineChar, optionalLine};
-ghost use Rattle.text_input.specs.Step.{leaveOf, escLeave, csiLeave, meetOf, firstChar, guardOf, lastOf, leadChars, imageChars, madeOf, groundOf, stepOf};
+ghost use Rattle.text_input.specs.Step.{leaveOf, escLeave, csiLeave, meetOf, firstChar, guardOf, lastOf, leadChars, imageChars, madeOf, groundOf, scanStepOf};
 
 // What comes before an image: a character that was pending, or the 34F that guards the image's first character.
 pub enum Lead {
@@ -305,7 +305,7 @@ impl TextInput {
     // One character. Inner: asks for an accepted page.
     pub fn step(self, page: &[u32], options: Options, c: u32) -> Step
         requires { ⌜ accepted (now page) ≡ true ⌝ }
-        ensures { λ r. ⌜ r ≡ stepOf (now (page .entry)) options self c ⌝ }
+        ensures { λ r. ⌜ r ≡ scanStepOf (now (page .entry)) options self c ⌝ }
     {
         let state = self.state;
         let mut lead = Lead::Nothing;

@@ -13,7 +13,7 @@ use Rattle.page.specs.Page.{sized, rising, nonstarter, assigned, accepted}
 use Rattle.text_utils.specs.Classes.{starter, graphemeExtendNotCgj, spacingMarkPlus, basicTextStart, basicTextEnd, isPrivateUse}
 use Rattle.replace.specs.Replace.{replaceOf}
 use Rattle.check_char.specs.Check.{reasonOf, checkNumbers}
-use Rattle.isolate_unassigned.specs.Isolate.{toIsolate, stepOf as isolateStep, isolateOf}
+use Rattle.isolate_unassigned.specs.Isolate.{toIsolate, isolateStepOf as isolateStep, isolateOf}
 use Rattle.text_output.specs.declared.Ground.the-variants.{Newline, ZwjOrPrepend, Other}
 use Rattle.text_output.specs.declared.State.{State}
 use Rattle.text_output.specs.declared.State.the-variants.{Ground, Esc, Csi}

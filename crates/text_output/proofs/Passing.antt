@@ -34,7 +34,7 @@ use Rattle.text_utils.proofs.Classes.{start-joiner}
 use Rattle.check_char.specs.Check.{all}
 use Rattle.isolate_unassigned.specs.declared.IsolateUnassigned.{IsolateUnassigned}
 use Rattle.isolate_unassigned.specs.declared.Isolated.{Isolated}
-use Rattle.isolate_unassigned.specs.Isolate.{toIsolate, recordOf, fresh as unmarked, puts, stepOf, givesOut, after, outs, isolateOf}
+use Rattle.isolate_unassigned.specs.Isolate.{toIsolate, isolatorOf, fresh as unmarked, puts, isolateStepOf, givesOut, after, isolatedFrom, isolateOf}
 use Rattle.isolate_unassigned.specs.Meaning.{PutIn, none, kept, put}
 use Rattle.isolate_unassigned.proofs.Laws.{length-isolate, isolate-puts-in}
 use Rattle.text_output.specs.declared.Ground.{Ground}
@@ -45,7 +45,7 @@ use Rattle.text_output.specs.declared.Mode.the-variants.{Plain}
 use Rattle.text_output.specs.declared.TextOutput.{TextOutput}
 use Rattle.text_output.specs.Writer.{Given, fresh, sound, onGround}
 use Rattle.text_output.specs.Step.{goes}
-use Rattle.text_output.specs.Write.{runOf, runIn, handOut, endedBy, placesFor, writeRefusal, writeStrOf}
+use Rattle.text_output.specs.Write.{runOf, runIn, handOut, endedBy, placesForWrite, writeRefusal, writeStrOf}
 use Rattle.text_output.specs.Close.{closeOf}
 use Rattle.text_output.specs.Passing.{PassesIn}
 use Rattle.text_output.proofs.Writable.{writable, groundOf, groundAfter, isolated-goes}
@@ -76,13 +76,13 @@ module _ (p : List ℕ) (a : accepted p ≡ true) where
 
   -- from a record that owes no 34F if it is after 0A
   outs-end : (cs : List ℕ) (r : IsolateUnassigned) (b : Bool) → (b ≡ true → r .«need_cgj» ≡ false) → endsWell b cs ≡ true →
-      endsWell b (outs p r cs) ≡ true
-  unfolding stepOf
+      endsWell b (isolatedFrom p r cs) ≡ true
+  unfolding isolateStepOf
   outs-end [] r b f h = rw (f h) h
   outs-end (c ∷ cs) r b f h =
-      split (λ (s : Isolated). endsWell b (givesOut s ++ outs p (after s) cs) ≡ true) (puts p r c)
-      (λ e. outs-end cs (recordOf (toIsolate p c) false) (eqb c 0x0A) (newline-assigned c) h)
-      (λ e. outs-end cs (recordOf false (eqb c 0x34F)) (eqb c 0x0A) (λ n. refl) h)
+      split (λ (s : Isolated). endsWell b (givesOut s ++ isolatedFrom p (after s) cs) ≡ true) (puts p r c)
+      (λ e. outs-end cs (isolatorOf (toIsolate p c) false) (eqb c 0x0A) (newline-assigned c) h)
+      (λ e. outs-end cs (isolatorOf false (eqb c 0x34F)) (eqb c 0x0A) (λ n. refl) h)
 
   pub ends-isolated : (cs : List ℕ) → endsWell true cs ≡ true → endsWell true (isolateOf p cs) ≡ true
   unfolding isolateOf
@@ -101,9 +101,9 @@ lines-go p a cs w s n f l =
     rw (ends-on-newline (isolateOf p cs) Newline true (λ t. refl) (ends-isolated p a cs l)) at (isolated-goes p cs w Newline s n f)
 
 pub write-runs : (w : TextOutput) (p cs places : List ℕ) → sound w ≡ true → accepted p ≡ true → areChars cs ≡ true →
-    placesFor w (length cs) ≤ length places → writeStrOf w p cs places ≡ endedBy p (runIn (w .mode) p w cs) places
+    placesForWrite w (length cs) ≤ length places → writeStrOf w p cs places ≡ endedBy p (runIn (w .mode) p w cs) places
 unfolding writeStrOf writeRefusal
-write-runs w p cs places s a c room = rw (s, a, c, le-ltb (length places) (placesFor w (length cs)) room)
+write-runs w p cs places s a c room = rw (s, a, c, le-ltb (length places) (placesForWrite w (length cs)) room)
 
 -- an answer that hands out k characters from a writer
 pub record Handed (w : TextOutput) (k : ℕ) (answer : Given) : Type 0 where

@@ -22,7 +22,7 @@ use Rattle.text_output.specs.declared.State.the-variants.{Ground, Esc, C
 use Rattle.text_output.specs.declared.TextOutput.{TextOutput}
 use Rattle.text_output.specs.Writer.{Given, sound, keeping, refusedBy, abandonedBy}
 use Rattle.text_output.specs.Step.{Stepped, goes, stops}
-use Rattle.text_output.specs.Write.{runIn, endedBy, placesFor, writeRefusal, writeStrOf, beginsNone, writeOf}
+use Rattle.text_output.specs.Write.{runIn, endedBy, placesForWrite, writeRefusal, writeStrOf, beginsNone, writeOf}
 use Rattle.text_output.specs.Close.{expecting, flushIn, flushOf, closeIn, closeOf}
 use Rattle.text_output.specs.Refusals.{Call, write, flush, close, refusalIn, filledIn, oneOf, isClose, isQuiet, isOther, isSparing, Leaves, SecondCloses}
 use Rattle.text_output.proofs.Steps.{StepRefusal, four, six, Holds, mode-holds}
@@ -146,7 +146,7 @@ refusal-quiet w p chars room =
     split LeavesAll (not (accepted p)) (λ a. (refl, refl))
     (λ a.
     split LeavesAll (not (areChars chars)) (λ c. (refl, refl))
-    (λ c. split LeavesAll (ltb room (placesFor w (length chars))) (λ r. (refl, refl)) (λ r. (refl, refl)))))
+    (λ c. split LeavesAll (ltb room (placesForWrite w (length chars))) (λ r. (refl, refl)) (λ r. (refl, refl)))))
 
 -- stores before n leave the places from n on
 drop-sets : (n : ℕ) (l : List ℕ) (i : ℕ) (vs : List ℕ) → i + length vs ≤ n → drop n (sets l i vs) ≡ drop n l

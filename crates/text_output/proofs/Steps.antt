@@ -17,7 +17,7 @@ use Rattle.text_output.specs.declared.Mode.{Mode}
 use Rattle.text_output.specs.declared.Mode.the-variants.{Plain, Crlf, Color}
 use Rattle.text_output.specs.declared.TextOutput.{TextOutput}
 use Rattle.text_output.specs.Writer.{escapeLimit, onGround}
-use Rattle.text_output.specs.Step.{Stepped, goes, stops, behind, andThen, holding, isColor, groundStep, escStep, inSequence, csiStep, stepIn, stepOf, stepsOf}
+use Rattle.text_output.specs.Step.{Stepped, goes, stops, behind, andThen, holding, isColor, groundStep, escStep, inSequence, csiStep, stepIn, writeStepOf, stepsOf}
 use Rattle.text_output.specs.Write.{runOf, parts, putCrlf, moreParts, partsOf, runIn}
 
 -- by 4 with the reason's number and values, or by 6
@@ -74,7 +74,7 @@ module _ (I : TextOutput → Type 0) (ground : (w : TextOutput) (g : Ground) →
   unfolding stepsOf
   steps-hold [] w error h = h
   steps-hold (c ∷ cs) w error h =
-      then-holds (stepOf w error c) (λ next. stepsOf next error cs) (step-holds w (w .state) error c refl h)
+      then-holds (writeStepOf w error c) (λ next. stepsOf next error cs) (step-holds w (w .state) error c refl h)
       (λ next g. steps-hold cs next error g)
 
   module _ (p : List ℕ) where

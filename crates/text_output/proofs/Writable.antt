@@ -26,7 +26,7 @@ use Rattle.text_output.specs.declared.Ground.the-variants.{Newline, ZwjO
 use Rattle.text_output.specs.declared.State.the-variants.{Ground as Grounded}
 use Rattle.text_output.specs.declared.TextOutput.{TextOutput}
 use Rattle.text_output.specs.Writer.{onGround}
-use Rattle.text_output.specs.Step.{goes, groundStep, stepOf, stepsOf}
+use Rattle.text_output.specs.Step.{goes, groundStep, writeStepOf, stepsOf}
 use Rattle.text_output.specs.Write.{checked, firstError, runOf}
 
 -- ---- writable characters
@@ -70,7 +70,7 @@ module _ (c : ℕ) (h : writable c ≡ true) where
       ne-eqb c 0x1A (λ e. omega (arith, refused-substitute, rw e at a))
 
   step-goes : (w : TextOutput) (g : Ground) (error : List ℕ) → w .state ≡ Grounded g →
-      stepOf w error c ≡ goes (c ∷ []) (onGround w (groundOf c))
+      writeStepOf w error c ≡ goes (c ∷ []) (onGround w (groundOf c))
   unfolding groundStep groundOf
   step-goes w g error s = by (eqb c 0x0A) (λ n. rw (s, no-escape, n)) (λ n. rw (s, no-escape, n, no-substitute))
 

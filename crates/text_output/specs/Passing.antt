@@ -8,7 +8,7 @@ use lib.ListN.{length, take}
 use Rattle.isolate_unassigned.specs.Isolate.{isolateOf}
 use Rattle.text_output.specs.declared.Mode.{Mode}
 use Rattle.text_output.specs.Writer.{Given, Outcome, fresh}
-use Rattle.text_output.specs.Write.{parts, placesFor, writeStrOf}
+use Rattle.text_output.specs.Write.{parts, placesForWrite, writeStrOf}
 use Rattle.text_output.specs.Close.{closeOf}
 
 -- of the characters that go out, what the one write returned and left, and what the close returned
@@ -26,7 +26,7 @@ pub record Passes (out : List ℕ) (wrote : Outcome) (closed : Given) : Type 0 w
 -- a queue passes a fresh writer in a mode: "Enough room is at least what a write of that length needs."
 abbrev pub PassesIn : Mode → (page queue out : List ℕ) → Type 0
 PassesIn mode page queue out =
-    (places : List ℕ) → placesFor (fresh mode) (length queue) ≤ length places →
+    (places : List ℕ) → placesForWrite (fresh mode) (length queue) ≤ length places →
     (wrote : Outcome) → wrote ≡ writeStrOf (fresh mode) page queue places →
     (closed : Given) → closed ≡ closeOf (wrote .given .next) → Passes out wrote closed
 

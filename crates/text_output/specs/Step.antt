@@ -84,10 +84,10 @@ stepIn (Ground g) w error c = groundStep w error c
 stepIn Esc w error c = escStep w c
 stepIn Csi w error c = csiStep w c
 
-abbrev pub stepOf : TextOutput → List ℕ → ℕ → Stepped
-stepOf w error c = stepIn (w .state) w error c
+abbrev pub writeStepOf : TextOutput → List ℕ → ℕ → Stepped
+writeStepOf w error c = stepIn (w .state) w error c
 
 -- ---- a run of characters
 unfoldable pub stepsOf : TextOutput → List ℕ → List ℕ → Stepped
 stepsOf w error [] = goes [] w
-stepsOf w error (c ∷ cs) = andThen (stepOf w error c) (λ next. stepsOf next error cs)
+stepsOf w error (c ∷ cs) = andThen (writeStepOf w error c) (λ next. stepsOf next error cs)

@@ -85,14 +85,14 @@ endedBy p (stops xs w n) places =
 
 -- ---- a write of characters
 -- "A write of n characters needs kept + held + 3 × n places."
-abbrev pub placesFor : TextOutput → ℕ → ℕ
-placesFor w n = w .kept + w .held + 3 * n
+abbrev pub placesForWrite : TextOutput → ℕ → ℕ
+placesForWrite w n = w .kept + w .held + 3 * n
 
 -- "Order: 9, 2, 1 (or 3 for bytes), 8": the number, and 0 where none of them refuses
 unfoldable pub writeRefusal : TextOutput → List ℕ → List ℕ → ℕ → ℕ
 writeRefusal w p chars room =
     cond (not (sound w)) 9
-    (cond (not (accepted p)) 2 (cond (not (areChars chars)) 1 (cond (ltb room (placesFor w (length chars))) 8 0)))
+    (cond (not (accepted p)) 2 (cond (not (areChars chars)) 1 (cond (ltb room (placesForWrite w (length chars))) 8 0)))
 
 -- "then 4 or 6 as met, then 5"
 unfoldable pub writeStrOf : TextOutput → List ℕ → List ℕ → List ℕ → Outcome

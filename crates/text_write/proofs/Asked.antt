@@ -23,7 +23,7 @@ use Rattle.text_output.specs.declared.TextOutput.{TextOutput}
 use Rattle.text_write.specs.declared.step.Step.{Step}
 use Rattle.text_write.specs.declared.step.Step.the-variants.{Out, Hold, Whole, NoColor, Unrecognized, Full}
 use Rattle.text_output.specs.Writer.{escapeLimit, heldIn, sound, onGround}
-use Rattle.text_output.specs.Step.{Stepped, goes, stops, holding, isColor, unwritable, groundStep, escStep, inSequence, csiStep, stepIn, stepOf}
+use Rattle.text_output.specs.Step.{Stepped, goes, stops, holding, isColor, unwritable, groundStep, escStep, inSequence, csiStep, stepIn, writeStepOf}
 use Rattle.text_write.specs.Inner.{csiAsked, askedIn}
 
 abbrev pub doneBy : Step → TextOutput → ℕ → Stepped
@@ -47,7 +47,7 @@ module _ (w : TextOutput) (error : List ℕ) (c : ℕ) (n : eqb c 0x1A ≡ false
       (λ e. by (ltb (w .held) escapeLimit) (λ k. by (eqb c 0x6D) (λ m. rw (e, k, m)) (λ m. rw (e, k, m))) (λ k. rw (e, k)))
       (λ e. rw e)
 
-  pub step-asked : (a : Step) → askedIn (w .state) (w .mode) (w .held) c ≡ a → stepOf w error c ≡ doneBy a w c
+  pub step-asked : (a : Step) → askedIn (w .state) (w .mode) (w .held) c ≡ a → writeStepOf w error c ≡ doneBy a w c
   step-asked a e = rw (← e) (asked-in (w .state))
 
 -- ---- fewer than 64

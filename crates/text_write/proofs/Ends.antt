@@ -14,7 +14,7 @@ use Rattle.text_output.specs.declared.Mode.{Mode}
 use Rattle.text_output.specs.declared.TextOutput.{TextOutput}
 use Rattle.text_output.specs.Writer.{sound}
 use Rattle.text_output.specs.Step.{Stepped, goes, stops}
-use Rattle.text_output.specs.Write.{runIn, endedBy, placesFor}
+use Rattle.text_output.specs.Write.{runIn, endedBy, placesForWrite}
 use Rattle.text_output.proofs.Kept.{Keeps, mode-keeps}
 use Rattle.text_write.specs.Inner.{pushed, writerAfter, stored, isCrlf, endOf}
 use Rattle.text_write.proofs.Rest.{run-rest}
@@ -34,7 +34,7 @@ pub ended-stored : (p : List ℕ) (s : Stepped) (places : List ℕ) (kept : ℕ)
 ended-stored p (goes xs w) places kept e = rw e refl
 ended-stored p (stops xs w n) places kept e = rw e refl
 
-pub write-fits : (mode : Mode) (p cs : List ℕ) (w : TextOutput) (n : ℕ) → sound w ≡ true → placesFor w (length cs) ≤ n →
+pub write-fits : (mode : Mode) (p cs : List ℕ) (w : TextOutput) (n : ℕ) → sound w ≡ true → placesForWrite w (length cs) ≤ n →
     w .kept + length (pushed (runIn mode p w cs)) ≤ n
 write-fits mode p cs w n s h = omega (arith, run-stays mode p cs w s .size)
 

@@ -26,7 +26,7 @@ use Rattle.text_write.specs.declared.store.Place.{Place}
 use Rattle.text_write.specs.declared.store.Pushed.{Pushed}
 use Rattle.text_write.specs.declared.store.Pushed.the-variants.{On, Stopped}
 use Rattle.text_output.specs.Writer.{Outcome, sound, afterNewline, wroteNumbers, writtenOutcome, bytesOutcome, refusedBy, abandonedBy}
-use Rattle.text_output.specs.Write.{runIn, placesFor, writeRefusal, writeStrOf, beginsNone, succeeds, taking, writeOf}
+use Rattle.text_output.specs.Write.{runIn, placesForWrite, writeRefusal, writeStrOf, beginsNone, succeeds, taking, writeOf}
 use Rattle.text_output.specs.Close.{abandonOf}
 use Rattle.text_write.specs.Inner.{writerAt, pushed, stored, progress, endOf, refusedBefore, bytesRefusal, refusedBytes}
 use Rattle.text_output.proofs.Passing.{write-runs}
@@ -59,11 +59,11 @@ module _ (w : TextOutput) (p cs places : List ℕ) where
     refused-char c = rw (s, a, c) refl
 
     module _ (c : areChars cs ≡ true) where
-      pub refused-room : ltb (length places) (placesFor w (length cs)) ≡ true → unchanged 8 w places ≡ writeStrOf w p cs places
+      pub refused-room : ltb (length places) (placesForWrite w (length cs)) ≡ true → unchanged 8 w places ≡ writeStrOf w p cs places
       unfolding writeStrOf writeRefusal
       refused-room r = rw (s, a, c, r) refl
 
-      pub write-ends : placesFor w (length cs) ≤ length places →
+      pub write-ends : placesForWrite w (length cs) ≤ length places →
           endOf p (stored (w .kept) places (runIn (w .mode) p w cs)) ≡ writeStrOf w p cs places
       write-ends r =
           rw (write-runs w p cs places s a c r)
@@ -95,7 +95,7 @@ module _ (w : TextOutput) (p bytes places : List ℕ) where
       unfolding writeOf
       bytes-run = rw (s, a, b) refl
 
-      bytes-room : ltb (length places) (placesFor w (length (charsOf bytes))) ≡ true →
+      bytes-room : ltb (length places) (placesForWrite w (length (charsOf bytes))) ≡ true →
           record { used = 0; outcome = unchanged 8 w places } ≡ writeOf w p bytes places
       bytes-room r = rw (← bytes-run, ← refused-room w p (charsOf bytes) places s a (longest bytes .chars) r) refl
 
@@ -104,14 +104,14 @@ pub record LetThrough (w : TextOutput) (p bytes places : List ℕ) : Type 0 wher
   pub is-sound : sound w ≡ true
   pub page : accepted p ≡ true
   pub begins : beginsNone bytes ≡ false
-  pub fits : placesFor w (length (charsOf bytes)) ≤ length places
+  pub fits : placesForWrite w (length (charsOf bytes)) ≤ length places
 
 module _ (w : TextOutput) (p bytes places : List ℕ) where
   abbrev pub refusal : ℕ
   refusal = bytesRefusal w p (ltb 0 (length bytes)) (length (charsOf bytes)) (length places)
 
   abbrev short : Bool
-  short = ltb (length places) (placesFor w (length (charsOf bytes)))
+  short = ltb (length places) (placesForWrite w (length (charsOf bytes)))
 
   refused-through : sound w ≡ true → accepted p ≡ true → (n : ℕ) → n ≡ cond (beginsNone bytes) 3 (cond short 8 0) → 0 < n →
       record { used = 0; outcome = record { given = refusedBytes n w; places = places } } ≡ writeOf w p bytes places
@@ -140,7 +140,7 @@ module _ (w : TextOutput) (p bytes places : List ℕ) where
       (λ b.
       by short
       (λ t. let z : n ≡ 8 = rw (b, t) at e in absurd (omega (arith, z, h)))
-      (λ t. record { is-sound = s; page = a; begins = b; fits = ltb-false (length places) (placesFor w (length (charsOf bytes))) t }))
+      (λ t. record { is-sound = s; page = a; begins = b; fits = ltb-false (length places) (placesForWrite w (length (charsOf bytes))) t }))
 
   pub let-through : (n : ℕ) → n ≡ refusal → n ≡ 0 → LetThrough w p bytes places
   let-through n e h =
@@ -170,7 +170,7 @@ module _ (w : TextOutput) (r : Place) (at-place : writerAt r (w .«escape_sequen
   pub place-sound : sound w ≡ true → sound (writerAt r (w .«escape_sequence»)) ≡ true
   place-sound s = ap sound at-place ∙ s
 
-  pub place-fits : (n : ℕ) → sound w ≡ true → placesFor w (length cs) ≤ n →
+  pub place-fits : (n : ℕ) → sound w ≡ true → placesForWrite w (length cs) ≤ n →
       r .at + length (pushed (runIn (r .mode) p (writerAt r (w .«escape_sequence»)) cs)) ≤ n
   place-fits n s h = rw (same-run, behind-kept) (write-fits (w .mode) p cs w n s h)
 

@@ -17,15 +17,15 @@ use Rattle.unicode.proofs.Kit.{by}
 use Rattle.check_char.specs.Check.{reasonOf, checkNumbers}
 use Rattle.check_char.proofs.Clean.{refused-substitute}
 use Rattle.isolate_unassigned.specs.declared.IsolateUnassigned.{IsolateUnassigned}
-use Rattle.isolate_unassigned.specs.Isolate.{fresh, puts, givesOut, after, lastOwed, outs, isolateOf}
-use Rattle.isolate_unassigned.specs.Isolate.{stepOf as isolatedBy}
+use Rattle.isolate_unassigned.specs.Isolate.{fresh, puts, givesOut, after, lastOwed, isolatedFrom, isolateOf}
+use Rattle.isolate_unassigned.specs.Isolate.{isolateStepOf as isolatedBy}
 use Rattle.isolate_unassigned.specs.Meaning.{joiner}
 use Rattle.text_output.specs.declared.State.{State}
 use Rattle.text_output.specs.declared.State.the-variants.{Ground, Esc, Csi}
 use Rattle.text_output.specs.declared.Mode.{Mode}
 use Rattle.text_output.specs.declared.Mode.the-variants.{Plain, Crlf, Color}
 use Rattle.text_output.specs.declared.TextOutput.{TextOutput}
-use Rattle.text_output.specs.Step.{Stepped, goes, stops, behind, andThen, groundStep, escStep, csiStep, stepIn, stepOf, stepsOf}
+use Rattle.text_output.specs.Step.{Stepped, goes, stops, behind, andThen, groundStep, escStep, csiStep, stepIn, writeStepOf, stepsOf}
 use Rattle.text_output.specs.Write.{checked, firstError, runOf, parts, putCrlf, moreParts, partsOf, runIn}
 use Rattle.text_write.specs.Inner.{refusedIn, isCrlf, turnOf, isolatorAfter}
 use Rattle.text_write.proofs.Asked.{step-asked}
@@ -66,17 +66,17 @@ pub steps-append : (xs ys : List ℕ) (w : TextOutput) (error : List ℕ) →
 unfolding stepsOf
 steps-append [] ys w error = sym (behind-none (stepsOf w error ys))
 steps-append (x ∷ xs) ys w error =
-    andThen-alike (stepOf w error x) _ _ (λ next. steps-append xs ys next error)
-    ∙ sym (andThen-assoc (stepOf w error x) (λ next. stepsOf next error xs) (λ next. stepsOf next error ys))
+    andThen-alike (writeStepOf w error x) _ _ (λ next. steps-append xs ys next error)
+    ∙ sym (andThen-assoc (writeStepOf w error x) (λ next. stepsOf next error xs) (λ next. stepsOf next error ys))
 
 -- ---- what a step looks at
 -- a character that is no 1A looks at no error
-pub step-error : (w : TextOutput) (e f : List ℕ) (c : ℕ) → eqb c 0x1A ≡ false → stepOf w e c ≡ stepOf w f c
+pub step-error : (w : TextOutput) (e f : List ℕ) (c : ℕ) → eqb c 0x1A ≡ false → writeStepOf w e c ≡ writeStepOf w f c
 step-error w e f c n = step-asked w e c n _ refl ∙ sym (step-asked w f c n _ refl)
 
-pub steps-one : (w : TextOutput) (error : List ℕ) (c : ℕ) → stepsOf w error (c ∷ []) ≡ stepOf w error c
+pub steps-one : (w : TextOutput) (error : List ℕ) (c : ℕ) → stepsOf w error (c ∷ []) ≡ writeStepOf w error c
 unfolding stepsOf
-steps-one w error c = andThen-none (stepOf w error c)
+steps-one w error c = andThen-none (writeStepOf w error c)
 
 pub steps-joiner : (put : Bool) (w : TextOutput) (error : List ℕ) → stepsOf w error (joiner put) ≡ stepsOf w [] (joiner put)
 unfolding stepsOf
@@ -85,7 +85,7 @@ steps-joiner false w error = refl
 
 -- 34F, put or not, and then a character
 pub steps-joined : (put : Bool) (w : TextOutput) (error : List ℕ) (c : ℕ) →
-    stepsOf w error (joiner put ++ c ∷ []) ≡ andThen (stepsOf w [] (joiner put)) (λ next. stepOf next error c)
+    stepsOf w error (joiner put ++ c ∷ []) ≡ andThen (stepsOf w [] (joiner put)) (λ next. writeStepOf next error c)
 steps-joined put w error c =
     rw (steps-append (joiner put) (c ∷ []) w error, steps-joiner put w error)
     (andThen-alike (stepsOf w [] (joiner put)) _ _ (λ next. steps-one next error c))
@@ -97,7 +97,7 @@ refused-in (Ground g) w error = refl
 refused-in Esc w error = refl
 refused-in Csi w error = refl
 
-pub refused-stops : (w : TextOutput) (error : List ℕ) → stepOf w error 0x1A ≡ stops [] w (4 ∷ refusedIn (w .state) error)
+pub refused-stops : (w : TextOutput) (error : List ℕ) → writeStepOf w error 0x1A ≡ stops [] w (4 ∷ refusedIn (w .state) error)
 refused-stops w error = refused-in (w .state) w error
 
 -- an accepted character is no 1A
@@ -112,7 +112,7 @@ given-joined p r c = by (puts p r c) (λ e. rw e) (λ e. rw e)
 -- ---- a run, with the first error
 -- what is left of a run from the isolator's record on
 abbrev left : List ℕ → TextOutput → IsolateUnassigned → List ℕ → Stepped
-left p w r cs = stepsOf w (firstError cs) (outs p r (map checked cs))
+left p w r cs = stepsOf w (firstError cs) (isolatedFrom p r (map checked cs))
 
 -- after steps that look at no error, and where a refused one ends
 stops-then : (s : Stepped) (more : TextOutput → Stepped) → (xs : List ℕ) (w : TextOutput) (n : List ℕ) → s ≡ stops xs w n →
@@ -133,7 +133,7 @@ turn-refused p w r error more =
     let put = puts p r 0x1A in
     let first = stepsOf w [] (joiner put) in
     rw (given-joined p r 0x1A, steps-joined put w error 0x1A)
-    (andThen-assoc first (λ next. stepOf next error 0x1A) more
+    (andThen-assoc first (λ next. writeStepOf next error 0x1A) more
     ∙ andThen-alike first _ _ (λ next. rw (refused-stops next error) refl))
 
 -- one character of a run
@@ -144,10 +144,10 @@ one-turn p w r c cs =
     by (eqb (reasonOf c) 0)
     (λ e.
     let s = isolatedBy p r c in
-    rw (e, steps-append (givesOut s) (outs p (after s) (map checked cs)) w (firstError cs), turn-accepted p w r c (firstError cs) (checkNumbers c) (eqb-true _ _ e)))
+    rw (e, steps-append (givesOut s) (isolatedFrom p (after s) (map checked cs)) w (firstError cs), turn-accepted p w r c (firstError cs) (checkNumbers c) (eqb-true _ _ e)))
     (λ e.
     let s = isolatedBy p r 0x1A in
-    rw (e, steps-append (givesOut s) (outs p (after s) (map checked cs)) w (checkNumbers c))
+    rw (e, steps-append (givesOut s) (isolatedFrom p (after s) (map checked cs)) w (checkNumbers c))
     (turn-refused p w r (checkNumbers c) _ ∙ sym (turn-refused p w r (checkNumbers c) _)))
 
 -- ---- a write

@@ -12,7 +12,7 @@ use native.Mathlib.Omega.{arith}
 use lib.ListN.{length}
 use Rattle.unicode.specs.declared.utf8.Utf8Step.the-variants.{Char, Stop as NoChar}
 use Rattle.unicode.specs.Utf8.{charsFrom, charsOf}
-use Rattle.unicode.specs.Utf8.{stepOf as utf8Step}
+use Rattle.unicode.specs.Utf8.{utf8StepOf as utf8Step}
 use Rattle.unicode.proofs.Texts.{step-on, stop-from}
 use Rattle.isolate_unassigned.specs.declared.IsolateUnassigned.{IsolateUnassigned}
 use Rattle.isolate_unassigned.specs.Isolate.{fresh, lastOwed}

@@ -17,7 +17,7 @@ use Rattle.unicode.proofs.Kit.{by, both-true, both}
 use Rattle.check_char.specs.Check.{checkNumbers}
 use Rattle.isolate_unassigned.specs.declared.IsolateUnassigned.{IsolateUnassigned}
 use Rattle.isolate_unassigned.specs.Isolate.{fresh, givesOut, after, lastOwed}
-use Rattle.isolate_unassigned.specs.Isolate.{stepOf as isolatedBy}
+use Rattle.isolate_unassigned.specs.Isolate.{isolateStepOf as isolatedBy}
 use Rattle.text_utils.specs.Classes.{basicTextEnd}
 use Rattle.isolate_unassigned.proofs.Laws.{givesOut-size, lastOwed-size}
 use Rattle.text_output.specs.declared.State.{State}
@@ -26,7 +26,7 @@ use Rattle.text_output.specs.declared.TextOutput.{TextOutput}
 use Rattle.text_write.specs.declared.step.Step.{Step}
 use Rattle.text_write.specs.declared.step.Step.the-variants.{Out, Hold, Whole, NoColor, Unrecognized, Full}
 use Rattle.text_output.specs.Writer.{escapeLimit, heldIn, sound}
-use Rattle.text_output.specs.Step.{Stepped, goes, stops, behind, andThen, isColor, inSequence, stepOf, stepsOf}
+use Rattle.text_output.specs.Step.{Stepped, goes, stops, behind, andThen, isColor, inSequence, writeStepOf, stepsOf}
 use Rattle.text_output.specs.Write.{checked, putCrlf}
 use Rattle.text_write.specs.Inner.{askedIn, pushed, writerAfter, turnOf, isolatorAfter}
 use Rattle.text_write.proofs.Asked.{doneBy, step-asked}
@@ -106,7 +106,7 @@ done-stays NoColor w c s f = record { is-sound = s; long = refl; size = omega ar
 done-stays Unrecognized w c s f = record { is-sound = s; long = refl; size = omega arith }
 done-stays Full w c s f = record { is-sound = s; long = refl; size = omega arith }
 
-pub step-stays : (w : TextOutput) (error : List ℕ) (c : ℕ) → sound w ≡ true → Stays 1 w (stepOf w error c)
+pub step-stays : (w : TextOutput) (error : List ℕ) (c : ℕ) → sound w ≡ true → Stays 1 w (writeStepOf w error c)
 step-stays w error c s =
     by (eqb c 0x1A)
     (λ e. rw (eqb-true c 0x1A e, refused-stops w error) (record { is-sound = s; long = refl; size = omega arith }))
@@ -121,7 +121,7 @@ unfolding stepsOf
 steps-stay [] w error s = record { is-sound = s; long = refl; size = omega arith }
 steps-stay (c ∷ cs) w error s =
     stays-more (1 + length cs) (length (c ∷ cs)) w _ (omega arith)
-    (stays-then 1 (length cs) w (stepOf w error c) _ (step-stays w error c s) (λ v t. steps-stay cs v error t))
+    (stays-then 1 (length cs) w (writeStepOf w error c) _ (step-stays w error c s) (λ v t. steps-stay cs v error t))
 
 -- ---- a write
 pub crlf-stays : (w : TextOutput) → Stays 2 w (putCrlf w)

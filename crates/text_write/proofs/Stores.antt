@@ -18,7 +18,7 @@ use Rattle.text_write.specs.declared.step.Step.{Step}
 use Rattle.text_write.specs.declared.step.Step.the-variants.{Out, Whole}
 use Rattle.text_write.specs.declared.store.Place.{Place}
 use Rattle.text_output.specs.Writer.{sound}
-use Rattle.text_output.specs.Step.{stepOf}
+use Rattle.text_output.specs.Step.{writeStepOf}
 use Rattle.text_write.specs.Inner.{askedIn, writerAt, pushed}
 use Rattle.text_write.proofs.Asked.{doneBy, step-asked, takes, takes-few}
 
@@ -26,7 +26,7 @@ module _ (w : Place) (e : List ℕ) (c : ℕ) where
   abbrev asked : Step
   asked = askedIn (w .state) (w .mode) (w .held) c
 
-  pub does : eqb c 0x1A ≡ false → (a : Step) → asked ≡ a → stepOf (writerAt w e) [] c ≡ doneBy a (writerAt w e) c
+  pub does : eqb c 0x1A ≡ false → (a : Step) → asked ≡ a → writeStepOf (writerAt w e) [] c ≡ doneBy a (writerAt w e) c
   unfolding writerAt
   does n a q = step-asked (writerAt w e) [] c n a q
 
@@ -34,7 +34,7 @@ module _ (w : Place) (e : List ℕ) (c : ℕ) where
   unfolding writerAt
   takes-low h q = takes-few (writerAt w e) c h q
 
-  module _ (n : eqb c 0x1A ≡ false) (out : List ℕ) (room : w .at + length (pushed (stepOf (writerAt w e) [] c)) ≤ length out) where
+  module _ (n : eqb c 0x1A ≡ false) (out : List ℕ) (room : w .at + length (pushed (writeStepOf (writerAt w e) [] c)) ≤ length out) where
     pub out-room : (g : Ground) → asked ≡ Out g → w .at < length out
     out-room g q = let r = rw (does n (Out g) q) at room in omega (arith, r)
 

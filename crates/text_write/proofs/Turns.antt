@@ -21,13 +21,13 @@ use Rattle.isolate_unassigned.specs.declared.IsolateUnassigned.{IsolateUnassign
 use Rattle.isolate_unassigned.specs.declared.Isolated.{Isolated}
 use Rattle.isolate_unassigned.specs.declared.Isolated.the-variants.{One, Two}
 use Rattle.isolate_unassigned.specs.Isolate.{fresh, puts, after}
-use Rattle.isolate_unassigned.specs.Isolate.{stepOf as isolatedBy}
+use Rattle.isolate_unassigned.specs.Isolate.{isolateStepOf as isolatedBy}
 use Rattle.isolate_unassigned.specs.Meaning.{joiner}
 use Rattle.text_output.specs.declared.TextOutput.{TextOutput}
 use Rattle.text_write.specs.declared.store.Place.{Place}
 use Rattle.text_write.specs.declared.store.Stop.{Stop}
 use Rattle.text_write.specs.declared.store.Pushed.the-variants.{On, Stopped}
-use Rattle.text_output.specs.Step.{andThen, stepOf, stepsOf}
+use Rattle.text_output.specs.Step.{andThen, writeStepOf, stepsOf}
 use Rattle.text_output.specs.Write.{checked, putCrlf}
 use Rattle.text_write.specs.Inner.{writerAt, stored, stopNumbers, progress, refusedIn, turnOf, isolatorAfter}
 use Rattle.text_write.proofs.Rest.{step-error, steps-one, refused-stops, accepted-no-sub, given-joined}
@@ -43,7 +43,7 @@ puts-two p r c s e = sym (ap two e) ∙ by (puts p r c) (λ q. rw q refl) (λ q.
 
 -- ---- 34F, put or not
 module _ (w : Place) (escape out : List ℕ) where
-  pub joined : (put : Bool) → put ≡ true → stepsOf (writerAt w escape) [] (joiner put) ≡ stepOf (writerAt w escape) [] 0x34F
+  pub joined : (put : Bool) → put ≡ true → stepsOf (writerAt w escape) [] (joiner put) ≡ writeStepOf (writerAt w escape) [] 0x34F
   joined put e = rw e (steps-one (writerAt w escape) [] 0x34F)
 
   pub not-joined : (put : Bool) → put ≡ false →
@@ -62,12 +62,12 @@ module _ (c : ℕ) (found : Checked) (told : reasonNumbers found ≡ checkNumber
   pub checked-sub : (r : BasicTextError) → found ≡ Err r → 0x1A ≡ checked c
   checked-sub r e = rw (refused c found told r e)
 
-  pub accepted-step : (w : TextOutput) → found ≡ Ok → stepOf w (checkNumbers c) (checked c) ≡ stepOf w [] c
+  pub accepted-step : (w : TextOutput) → found ≡ Ok → writeStepOf w (checkNumbers c) (checked c) ≡ writeStepOf w [] c
   accepted-step w e = rw (← checked-same e) (step-error w (checkNumbers c) [] c (no-sub e))
 
   pub refused-stored : (w : Place) (escape out : List ℕ) (r : BasicTextError) (stop : Stop) → found ≡ Err r →
       stopNumbers stop ≡ 4 ∷ refusedIn (w .state) (errorNumbers r) →
-      progress (Stopped w stop) escape out ≡ stored (w .at) out (stepOf (writerAt w escape) (checkNumbers c) (checked c))
+      progress (Stopped w stop) escape out ≡ stored (w .at) out (writeStepOf (writerAt w escape) (checkNumbers c) (checked c))
   unfolding writerAt
   refused-stored w escape out r stop e s =
       let t : errorNumbers r ≡ checkNumbers c = rw e at told in

@@ -12,7 +12,7 @@ use Rattle.check_char.specs.declared.BasicTextError.the-variants.{UnrecognizedE
 use Rattle.check_char.specs.Check.{errorNumbers, checkNumbers}
 use Rattle.isolate_unassigned.specs.declared.IsolateUnassigned.{IsolateUnassigned}
 use Rattle.isolate_unassigned.specs.Isolate.{fresh, givesOut, after, lastOwed}
-use Rattle.isolate_unassigned.specs.Isolate.{stepOf as isolatedBy}
+use Rattle.isolate_unassigned.specs.Isolate.{isolateStepOf as isolatedBy}
 use Rattle.text_output.specs.declared.Ground.the-variants.{Newline, ZwjOrPrepend, Other}
 use Rattle.text_output.specs.declared.State.{State}
 use Rattle.text_output.specs.declared.State.the-variants.{Ground, Esc, Csi}
@@ -30,7 +30,7 @@ use Rattle.text_write.specs.declared.store.Pushed.{Pushed}
 use Rattle.text_write.specs.declared.store.Pushed.the-variants.{On, Stopped}
 use Rattle.text_output.specs.Writer.{Given, Outcome, escapeLimit, sound, keeping, refusedBy, abandonedBy}
 use Rattle.text_output.specs.Step.{Stepped, goes, stops, andThen, isColor, inSequence, stepsOf}
-use Rattle.text_output.specs.Write.{checked, putCrlf, handOut, placesFor}
+use Rattle.text_output.specs.Write.{checked, putCrlf, handOut, placesForWrite}
 
 -- ---- a step, as small as it is asked for
 -- outside an escape, of a character that is no 1A
@@ -153,7 +153,7 @@ endOf p x = record { given = cond (x .going) (handOut p (x .writer) (x .at) (x .
 -- 9, then 2, then 3 where there are bytes and no character, then 8; 0 where none of them refuses
 abbrev pub bytesRefusal : TextOutput → List ℕ → Bool → ℕ → ℕ → ℕ
 bytesRefusal w p some n room =
-    cond (eqb (refusedBefore w p) 0) (cond (some && eqb n 0) 3 (cond (ltb room (placesFor w n)) 8 0)) (refusedBefore w p)
+    cond (eqb (refusedBefore w p) 0) (cond (some && eqb n 0) 3 (cond (ltb room (placesForWrite w n)) 8 0)) (refusedBefore w p)
 
 -- what a write of bytes refused by one of these comes to
 abbrev pub refusedBytes : ℕ → TextOutput → Given

@@ -34,13 +34,13 @@ ghost use mathlib.Core.Bool.{cond};
 ghost use mathlib.Core.List.{[]};
 ghost use lib.Dec.{ltb};
 ghost use Rattle.text_output.specs.Writer.{wroteNumbers, writtenOutcome, bytesOutcome};
-ghost use Rattle.text_output.specs.Write.{placesFor, writeStrOf, succeeds, writeOf};
+ghost use Rattle.text_output.specs.Write.{placesForWrite, writeStrOf, succeeds, writeOf};
 ghost use Rattle.text_write.specs.Inner.{refusedBefore, bytesRefusal, refusedBytes, handsOut};
 
 // Whether so many places are too few for a write of n characters, kept + held + 3 × n. Total: no sum is made, since a forged
 // record's would wrap.
 fn is_short(w: TextOutput, n: usize, room: usize) -> bool
-    ensures { λ r. ⌜ r ≡ ltb room (placesFor w n) ⌝ }
+    ensures { λ r. ⌜ r ≡ ltb room (placesForWrite w n) ⌝ }
 {
     if room < w.kept {
         return true;

@@ -25,10 +25,10 @@ ghost use Rattle.unicode.specs.Utf8.{charsOf};
 ghost use Rattle.page.specs.Page.{accepted};
 ghost use Rattle.check_char.specs.Check.{errorNumbers, reasonNumbers, checkNumbers};
 ghost use Rattle.isolate_unassigned.specs.Isolate.{puts, after, lastOwed};
-ghost use Rattle.isolate_unassigned.specs.Isolate.{stepOf as isolatedBy};
+ghost use Rattle.isolate_unassigned.specs.Isolate.{isolateStepOf as isolatedBy};
 ghost use Rattle.isolate_unassigned.specs.Meaning.{joiner};
 ghost use Rattle.text_output.specs.Writer.{sound};
-ghost use Rattle.text_output.specs.Step.{andThen, stepOf, stepsOf};
+ghost use Rattle.text_output.specs.Step.{andThen, writeStepOf, stepsOf};
 ghost use Rattle.text_output.specs.Write.{checked, putCrlf, runIn};
 ghost use Rattle.text_write.specs.Inner.{writerAt, pushed, stored, stopNumbers, progress, refusedIn, turnOf, isolatorAfter};
 
@@ -103,10 +103,10 @@ fn push_categorized(w: Place, c: u32, found: Checked, escape: &mut [u32], out: &
     requires told { ⌜ reasonNumbers found ≡ checkNumbers c ⌝ }
     requires sound { ⌜ sound (writerAt w (now escape)) ≡ true ⌝ }
     requires long { ⌜ length (now escape) ≡ 64 ⌝ }
-    requires room { ⌜ w .at + length (pushed (stepOf (writerAt w (now escape)) (checkNumbers c) (checked c))) ≤ length (now out) ⌝ }
+    requires room { ⌜ w .at + length (pushed (writeStepOf (writerAt w (now escape)) (checkNumbers c) (checked c))) ≤ length (now out) ⌝ }
     ensures { λ r. ⌜
         progress r (now (escape .exit)) (now (out .exit))
-        ≡ stored (w .at) (now (out .entry)) (stepOf (writerAt w (now (escape .entry))) (checkNumbers c) (checked c))
+        ≡ stored (w .at) (now (out .entry)) (writeStepOf (writerAt w (now (escape .entry))) (checkNumbers c) (checked c))
         ⌝ }
 {
     match found {

@@ -14,7 +14,7 @@ ghost use lib.Dec.{eqb};
 ghost use lib.ListN.{length};
 ghost use lib.Seq.{sets};
 ghost use Rattle.text_output.specs.Writer.{sound};
-ghost use Rattle.text_output.specs.Step.{stepOf};
+ghost use Rattle.text_output.specs.Step.{writeStepOf};
 ghost use Rattle.text_write.specs.Inner.{writerAt, pushed, stored, progress};
 
 // The writer's record without the held characters, and the place for the next character to hand out.
@@ -57,8 +57,8 @@ pub fn push(w: Place, c: u32, escape: &mut [u32], out: &mut [u32]) -> Pushed
     requires sub { ⌜ eqb c 0x1A ≡ false ⌝ }
     requires sound { ⌜ sound (writerAt w (now escape)) ≡ true ⌝ }
     requires long { ⌜ length (now escape) ≡ 64 ⌝ }
-    requires room { ⌜ w .at + length (pushed (stepOf (writerAt w (now escape)) [] c)) ≤ length (now out) ⌝ }
-    ensures { λ r. ⌜ progress r (now (escape .exit)) (now (out .exit)) ≡ stored (w .at) (now (out .entry)) (stepOf (writerAt w (now (escape .entry))) [] c) ⌝ }
+    requires room { ⌜ w .at + length (pushed (writeStepOf (writerAt w (now escape)) [] c)) ≤ length (now out) ⌝ }
+    ensures { λ r. ⌜ progress r (now (escape .exit)) (now (out .exit)) ≡ stored (w .at) (now (out .entry)) (writeStepOf (writerAt w (now (escape .entry))) [] c) ⌝ }
 {
     let mode = w.mode;
     let state = w.state;

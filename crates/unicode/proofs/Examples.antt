@@ -8,7 +8,7 @@ use native.Mathlib.Omega.{arith}
 use lib.ListN.{length}
 use Rattle.unicode.specs.declared.utf8.Utf8Step.the-variants.{Stop}
 use Rattle.unicode.specs.Chars.{isChar, areChars}
-use Rattle.unicode.specs.Utf8.{encodeOf, encodeAll, continuation, stepOf, charsOf}
+use Rattle.unicode.specs.Utf8.{encodeOf, encodeAll, continuation, utf8StepOf, charsOf}
 use Rattle.unicode.specs.Inner.{moreOf, keptOf}
 use Rattle.unicode.proofs.Steps.{lead-step}
 use Rattle.unicode.proofs.Texts.{decode-encode}
@@ -41,16 +41,16 @@ unfolding encodeOf isChar
 stump = example _ _ refl refl
 
 -- C0 80, an overlong form of U+0000
-overlong-nul : stepOf (0xC0 ∷ 0x80 ∷ []) 0 ≡ Stop
+overlong-nul : utf8StepOf (0xC0 ∷ 0x80 ∷ []) 0 ≡ Stop
 unfolding moreOf continuation keptOf isChar
 overlong-nul = sym (lead-step (0xC0 ∷ 0x80 ∷ []) 0 0xC0 (omega arith) refl)
 
 -- ED A1 8C, a surrogate
-surrogate : stepOf (0xED ∷ 0xA1 ∷ 0x8C ∷ []) 0 ≡ Stop
+surrogate : utf8StepOf (0xED ∷ 0xA1 ∷ 0x8C ∷ []) 0 ≡ Stop
 unfolding moreOf continuation keptOf isChar
 surrogate = sym (lead-step (0xED ∷ 0xA1 ∷ 0x8C ∷ []) 0 0xED (omega arith) refl)
 
 -- F4 90 80 80, one past U+10FFFF
-past-the-last : stepOf (0xF4 ∷ 0x90 ∷ 0x80 ∷ 0x80 ∷ []) 0 ≡ Stop
+past-the-last : utf8StepOf (0xF4 ∷ 0x90 ∷ 0x80 ∷ 0x80 ∷ []) 0 ≡ Stop
 unfolding moreOf continuation keptOf isChar
 past-the-last = sym (lead-step (0xF4 ∷ 0x90 ∷ 0x80 ∷ 0x80 ∷ []) 0 0xF4 (omega arith) refl)

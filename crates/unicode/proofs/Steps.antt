@@ -1,6 +1,6 @@
 -- The step finds a character exactly where its encoding stands. Assumes nothing.
 -- The code's tests, as the function `machine` on lists, find each encoding that stands (`complete`), and nothing else
--- (`sound`). So no two characters stand at one place, and the first found by `stepOf` is the one.
+-- (`sound`). So no two characters stand at one place, and the first found by `utf8StepOf` is the one.
 --     step-exactly    the step answers c and the place after it exactly where c stands
 --     step-stops      it stops exactly where nothing stands
 --     past-step, lead-step    the code's tests come to the step
@@ -21,7 +21,7 @@ use Rattle.unicode.specs.declared.utf8.Utf8Step.the-variants.{Char, Stop
 use Rattle.unicode.specs.declared.utf8.Bits.{Bits}
 use Rattle.unicode.specs.declared.utf8.Bits.the-variants.{Read, Broken}
 use Rattle.unicode.specs.Chars.{isChar}
-use Rattle.unicode.specs.Utf8.{encodeOf, continuation, begins, Stands, stepBelow, stepOf}
+use Rattle.unicode.specs.Utf8.{encodeOf, continuation, begins, Stands, stepBelow, utf8StepOf}
 use Rattle.unicode.specs.Inner.{moreOf, onBits, keptOf, twoOf, threeOf, fourOf}
 use Rattle.unicode.proofs.Kit.{never, by, by-lt, split, both-true, both}
 use Rattle.unicode.proofs.Rows.{char-lt, char-low, row1, row2, row3, row4, by-row, length-encode}
@@ -253,31 +253,31 @@ module _ (bs : List ℕ) (at : ℕ) where
   below-none zero f = refl
   below-none (suc m) f = by (test m) (λ p. absurd (f m (stands-test m p))) (λ p. rw p (below-none m f))
 
-  step-found : (c : ℕ) → Stands bs at c → stepOf bs at ≡ Char c (at + length (encodeOf c))
-  unfolding stepOf
+  step-found : (c : ℕ) → Stands bs at c → utf8StepOf bs at ≡ Char c (at + length (encodeOf c))
+  unfolding utf8StepOf
   step-found c s = below-found 0x110000 c (char-lt c (s .char)) s
 
   -- what the tests find is the step
-  found : (r : Utf8Step) → machine bs at ≡ r → Sound bs at r → r ≡ stepOf bs at
-  unfolding stepOf
+  found : (r : Utf8Step) → machine bs at ≡ r → Sound bs at r → r ≡ utf8StepOf bs at
+  unfolding utf8StepOf
   found (Char c next) e s = rw (s .1) (sym (step-found c (s .0)))
   found Stop e s =
       sym (below-none 0x110000 (λ c t. let f = complete bs at c t in let z : _≡_ {A = ℕ} 0 1 = cc in omega arith))
 
-  machine-step : machine bs at ≡ stepOf bs at
+  machine-step : machine bs at ≡ utf8StepOf bs at
   machine-step = found (machine bs at) refl (sound bs at)
 
-  pub past-step : length bs ≤ at → Stop ≡ stepOf bs at
+  pub past-step : length bs ≤ at → Stop ≡ utf8StepOf bs at
   past-step h = rw (le-leb (length bs) at h) at machine-step
 
-  pub lead-step : (b : ℕ) → at < length bs → b ≡ getD bs at 0 → leadOf b bs at ≡ stepOf bs at
+  pub lead-step : (b : ℕ) → at < length bs → b ≡ getD bs at 0 → leadOf b bs at ≡ utf8StepOf bs at
   lead-step b h e = rw (lt-leb (length bs) at h, ← e) at machine-step
 
-  pub step-exactly : (c next : ℕ) → (stepOf bs at ≡ Char c next) ↔ (Stands bs at c × (next ≡ at + length (encodeOf c)))
+  pub step-exactly : (c next : ℕ) → (utf8StepOf bs at ≡ Char c next) ↔ (Stands bs at c × (next ≡ at + length (encodeOf c)))
   step-exactly c next = (λ e. rw (machine-step ∙ e) at (sound bs at), λ s. rw (s .1) (step-found c (s .0)))
 
-  pub step-stops : (stepOf bs at ≡ Stop) ↔ ((c : ℕ) → Stands bs at c → ⊥)
-  unfolding stepOf
+  pub step-stops : (utf8StepOf bs at ≡ Stop) ↔ ((c : ℕ) → Stands bs at c → ⊥)
+  unfolding utf8StepOf
   step-stops = (
     λ e c s. let f = step-found c s in let z : _≡_ {A = ℕ} 0 1 = cc in omega arith,
     λ f. below-none 0x110000 f,

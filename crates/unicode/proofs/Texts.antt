@@ -21,7 +21,7 @@ use Rattle.unicode.specs.declared.utf8.Prefix.{Prefix}
 use Rattle.unicode.specs.declared.utf8.Utf8Step.{Utf8Step}
 use Rattle.unicode.specs.declared.utf8.Utf8Step.the-variants.{Char, Stop}
 use Rattle.unicode.specs.Chars.{isChar, areChars}
-use Rattle.unicode.specs.Utf8.{encodeOf, encodeAll, begins, Stands, stepOf, onChar, charsFrom, charsOf, LongestPrefix, countsOf, decodeOf, decodePlaces}
+use Rattle.unicode.specs.Utf8.{encodeOf, encodeAll, begins, Stands, utf8StepOf, onChar, charsFrom, charsOf, LongestPrefix, countsOf, decodeOf, decodePlaces}
 use Rattle.unicode.proofs.Kit.{never, both-true, both}
 use Rattle.unicode.proofs.Rows.{length-encode}
 use Rattle.unicode.proofs.Steps.{begins-long, stands-inside, step-exactly}
@@ -58,7 +58,7 @@ none-of [] h = refl
 none-of (c ∷ cs) h = absurd (omega (arith, length-encode c, simp length-append at h))
 
 -- ---- the longest valid prefix
-pub step-on : (bs : List ℕ) (at c next : ℕ) → stepOf bs at ≡ Char c next → (at < next) × (next ≤ length bs)
+pub step-on : (bs : List ℕ) (at c next : ℕ) → utf8StepOf bs at ≡ Char c next → (at < next) × (next ≤ length bs)
 step-on bs at c next e =
     let s = step-exactly bs at c next .0 e in
     omega (arith, length-encode c, stands-inside bs at c (s .0), s .1)
@@ -68,19 +68,19 @@ module _ (bs : List ℕ) where
   abbrev Runs : ℕ → List ℕ → Type 0
   Runs at cs = (areChars cs ≡ true) × (begins (encodeAll cs) (drop at bs) ≡ true)
 
-  joins : (at c next : ℕ) (cs : List ℕ) → stepOf bs at ≡ Char c next → Runs next cs → Runs at (c ∷ cs)
+  joins : (at c next : ℕ) (cs : List ℕ) → utf8StepOf bs at ≡ Char c next → Runs next cs → Runs at (c ∷ cs)
   joins at c next cs e r =
       let s = step-exactly bs at c next .0 e in
       (both (s .0 .char) (r .0), rw (begins-append, drop-drop, ← s .1) (both (s .0 .bytes) (r .1)))
 
-  on : (f at : ℕ) → ((next : ℕ) → Runs next (charsFrom f bs next)) → (r : Utf8Step) → stepOf bs at ≡ r
+  on : (f at : ℕ) → ((next : ℕ) → Runs next (charsFrom f bs next)) → (r : Utf8Step) → utf8StepOf bs at ≡ r
       → Runs at (onChar r (λ next. charsFrom f bs next))
   on f at go (Char c next) e = joins at c next (charsFrom f bs next) e (go next)
   on f at go Stop e = (refl, refl)
 
   runs : (f at : ℕ) → Runs at (charsFrom f bs at)
   runs zero at = (refl, refl)
-  runs (suc f) at = on f at (λ next. runs f next) (stepOf bs at) refl
+  runs (suc f) at = on f at (λ next. runs f next) (utf8StepOf bs at) refl
 
   -- what stands there starts with its first character, and goes on with the others
   module _ (at d : ℕ) (ds : List ℕ) (r : Runs at (d ∷ ds)) where
@@ -138,7 +138,7 @@ on-length f bs go Stop = omega arith
 
 length-from : (f : ℕ) (bs : List ℕ) (at : ℕ) → length (charsFrom f bs at) ≤ f
 length-from zero bs at = omega arith
-length-from (suc f) bs at = on-length f bs (λ next. length-from f bs next) (stepOf bs at)
+length-from (suc f) bs at = on-length f bs (λ next. length-from f bs next) (utf8StepOf bs at)
 
 pub decode-all : (bs : List ℕ) → decodeOf bs bs ≡ charsOf bs
 unfolding charsOf
@@ -148,7 +148,7 @@ pub length-decode : (bs out : List ℕ) → length (decodeOf bs out) ≤ length 
 length-decode bs out = omega (arith, length-take (length out) (charsOf bs))
 
 -- no character comes from a stop on
-pub stop-from : (bs : List ℕ) (f at : ℕ) → stepOf bs at ≡ Stop → charsFrom f bs at ≡ []
+pub stop-from : (bs : List ℕ) (f at : ℕ) → utf8StepOf bs at ≡ Stop → charsFrom f bs at ≡ []
 stop-from bs zero at e = refl
 stop-from bs (suc f) at e = rw e
 
@@ -173,7 +173,7 @@ module _ (bs : List ℕ) (room : ℕ) where
   unfolding charsOf
   left-begin = rw (sub-zero, sub-zero)
 
-  left-turn : (k at c next : ℕ) → k < room → k ≤ at → stepOf bs at ≡ Char c next → left k at ≡ c ∷ left (k + 1) next
+  left-turn : (k at c next : ℕ) → k < room → k ≤ at → utf8StepOf bs at ≡ Char c next → left k at ≡ c ∷ left (k + 1) next
   left-turn k at c next h l e =
       let p : room - k ≡ suc (room - (k + 1)) = omega arith in
       let q : length bs - k ≡ suc (length bs - (k + 1)) = omega (arith, step-on bs at c next e) in
@@ -186,13 +186,13 @@ module _ (bs : List ℕ) (room : ℕ) where
   take-none zero = refl
   take-none (suc n) = refl
 
-  left-stop : (k at : ℕ) → stepOf bs at ≡ Stop → left k at ≡ []
+  left-stop : (k at : ℕ) → utf8StepOf bs at ≡ Stop → left k at ≡ []
   left-stop k at e = rw (stop-from bs (length bs - k) at e) (take-none (room - k))
 
   pub begin : Going 0 0
   begin = record { low = omega arith; inside = omega arith; fits = omega arith; count = rw (left-begin, zero-add); place = rw (left-begin, zero-add) }
 
-  pub again : (k at c next : ℕ) → Going k at → k < room → stepOf bs at ≡ Char c next → Going (k + 1) next
+  pub again : (k at c next : ℕ) → Going k at → k < room → utf8StepOf bs at ≡ Char c next → Going (k + 1) next
   again k at c next g h e =
       let l = left-turn k at c next h (g .low) e in
       let s = step-exactly bs at c next .0 e in
@@ -211,7 +211,7 @@ module _ (bs : List ℕ) (room : ℕ) where
       let q : at ≡ length (encodeAll (whole)) = omega (arith, simp h at (g .place)) in
       cc
 
-pub ended-all : (bs : List ℕ) (k at : ℕ) → Going bs (length bs) k at → stepOf bs at ≡ Stop → _≡_ {A = Prefix} (record { chars = k; bytes = at }) (countsOf (charsOf bs))
+pub ended-all : (bs : List ℕ) (k at : ℕ) → Going bs (length bs) k at → utf8StepOf bs at ≡ Stop → _≡_ {A = Prefix} (record { chars = k; bytes = at }) (countsOf (charsOf bs))
 ended-all bs k at g e = ended bs (length bs) k at g (left-stop bs (length bs) k at e) ∙ ap countsOf (decode-all bs)
 
 module _ (bs out₀ : List ℕ) where
@@ -230,7 +230,7 @@ module _ (bs out₀ : List ℕ) where
         places = rw (left-begin bs (length out₀)) (rw zero-add at (sets-eq ds out₀ 0 (rw zero-add (length-decode bs out₀))));
       }
 
-  pub decoding-again : (out : List ℕ) (k at c next : ℕ) → Decoding out k at → k < length out → stepOf bs at ≡ Char c next
+  pub decoding-again : (out : List ℕ) (k at c next : ℕ) → Decoding out k at → k < length out → utf8StepOf bs at ≡ Char c next
       → Decoding (set out k c) (k + 1) next
   decoding-again out k at c next d h e =
       let l = left-turn bs (length out₀) k at c next (omega (arith, d .same)) (d .going .low) e in
@@ -253,5 +253,5 @@ module _ (bs out₀ : List ℕ) where
       let e : k ≡ length out₀ = omega (arith, d .same, d .going .fits) in
       decoding-ended out k at d (rw e (left-full bs (length out₀) at))
 
-  pub decoding-stop : (out : List ℕ) (k at : ℕ) → Decoding out k at → stepOf bs at ≡ Stop → Stored out k at
+  pub decoding-stop : (out : List ℕ) (k at : ℕ) → Decoding out k at → utf8StepOf bs at ≡ Stop → Stored out k at
   decoding-stop out k at d e = decoding-ended out k at d (left-stop bs (length out₀) k at e)

@@ -58,8 +58,8 @@ stepBelow (suc c) bs at =
     cond (isChar c && begins (encodeOf c) bs) (Char c (at + length (encodeOf c))) (stepBelow c bs at)
 
 -- the character whose encoding stands at `at` (no two do: `step-exactly`), and the place after it; Stop where none stands there
-unfoldable pub stepOf : List ℕ → ℕ → Utf8Step
-stepOf bs at = stepBelow 0x110000 (drop at bs) at
+unfoldable pub utf8StepOf : List ℕ → ℕ → Utf8Step
+utf8StepOf bs at = stepBelow 0x110000 (drop at bs) at
 
 -- the character, and then what comes from the next place on
 abbrev pub onChar : Utf8Step → (ℕ → List ℕ) → List ℕ
@@ -69,7 +69,7 @@ onChar Stop rest = []
 -- the characters from `at` on, up to the first stop and at most n
 abbrev pub charsFrom : ℕ → List ℕ → ℕ → List ℕ
 charsFrom zero bs at = []
-charsFrom (suc n) bs at = onChar (stepOf bs at) (λ next. charsFrom n bs next)
+charsFrom (suc n) bs at = onChar (utf8StepOf bs at) (λ next. charsFrom n bs next)
 
 -- the characters of the longest valid prefix (`longest`, `longest-only`)
 unfoldable pub charsOf : List ℕ → List ℕ

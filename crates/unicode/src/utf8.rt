@@ -6,7 +6,7 @@ ghost use mathlib.Core.Bool.{true};
 ghost use Prim.Native.Nat.{_+_, _≤_, _<_};
 ghost use lib.ListN.{length};
 ghost use Rattle.unicode.specs.Chars.{isChar};
-ghost use Rattle.unicode.specs.Utf8.{encodeOf, stepOf, charsOf, countsOf, decodeOf, decodePlaces, encodedNumbers, encodeAnswer, encodeBytes, withBytes};
+ghost use Rattle.unicode.specs.Utf8.{encodeOf, utf8StepOf, charsOf, countsOf, decodeOf, decodePlaces, encodedNumbers, encodeAnswer, encodeBytes, withBytes};
 ghost use Rattle.unicode.specs.Inner.{moreOf, keptOf, twoOf, threeOf, fourOf};
 
 // What stands at a place: a character with the place after it, or none.
@@ -96,7 +96,7 @@ fn four(bytes: &[u8], at: usize, lead: u32) -> Utf8Step
 
 // The character whose encoding stands at a place, with the place after it. Total: any bytes, any place.
 pub fn utf8_step(bytes: &[u8], at: usize) -> Utf8Step
-    ensures { λ r. ⌜ r ≡ stepOf (now (bytes .entry)) at ⌝ }
+    ensures { λ r. ⌜ r ≡ utf8StepOf (now (bytes .entry)) at ⌝ }
 {
     if bytes.len() <= at {
         return Utf8Step::Stop;

@@ -9,7 +9,7 @@ use borrow.Author.Tests.{lt-ltb, le-ltb}
 use lib.ListN.{length}
 use Rattle.unicode.specs.Chars.{areChars}
 use Rattle.page.specs.Page.{accepted}
-use Rattle.isolate_unassigned.specs.Isolate.{placesFor}
+use Rattle.isolate_unassigned.specs.Isolate.{placesForRun}
 use Rattle.isolate_unassigned.proofs.Laws.{length-isolate}
 use Rattle.isolate_unassigned.proofs.isolate.Statement.{statement}
 use Rattle.isolate_unassigned.proofs.isolate.Tie as tie
@@ -24,7 +24,7 @@ characters c = sym (c .before .are-chars .ensures) ∙ c .if2 .taken
 abbrev Start : tie.Then3 → tie.Start
 Start c = c .before .before .before .before .before .before .before .before .before
 
-room : (c : tie.Then3) → placesFor (length (Start c .args .chars .now)) ≤ length (Start c .args .out .now)
+room : (c : tie.Then3) → placesForRun (length (Start c .args .chars .now)) ≤ length (Start c .args .out .now)
 room c = omega (arith, c .before .places-for .ensures)
 
 isolate-run-requires : tie.Need-isolate-run-requires
@@ -47,7 +47,7 @@ returns-2 c =
     let p = right-page (d .before .before) in
     let q = characters d in
     let a = d .before .before .before .before .before .before .before .args in
-    let n = lt-ltb (length (a .out .now)) (placesFor (length (a .chars .now))) (omega (arith, c .before .places-for .ensures)) in
+    let n = lt-ltb (length (a .out .now)) (placesForRun (length (a .chars .now))) (omega (arith, c .before .places-for .ensures)) in
     (simp (p, q, n), simp (p, q, n))
 
 returns-3 : tie.Need-returns-3

@@ -1,12 +1,12 @@
--- `isolate_unassigned::places_for` meets its contract: its test is the case of `placesFor`.
+-- `isolate_unassigned::places_for` meets its contract: its test is the case of `placesForRun`.
 use Prim.Native.Nat.{ℕ, zero, suc, _+_, _*_}
 use mathlib.Core.Path.{_≡_, refl}
 use borrow.Author.Needs.{needs}
-use Rattle.isolate_unassigned.specs.Isolate.{placesFor}
+use Rattle.isolate_unassigned.specs.Isolate.{placesForRun}
 use Rattle.isolate_unassigned.proofs.places_for.Statement.{statement}
 use Rattle.isolate_unassigned.proofs.places_for.Tie as tie
 
-some : (n : ℕ) → (n ≡ 0 → ⊥) → 2 * n + 1 ≡ placesFor n
+some : (n : ℕ) → (n ≡ 0 → ⊥) → 2 * n + 1 ≡ placesForRun n
 some zero h = absurd (h refl)
 some (suc n) h = refl
 

@@ -7,15 +7,15 @@ use lib.Dec.{leb}
 use borrow.Author.Tests.{le-leb, lt-leb}
 use borrow.Author.Needs.{needs}
 use Rattle.unicode.proofs.Kit.{by-lt}
-use Rattle.text_input.specs.Scan.{placesFor}
+use Rattle.text_input.specs.Scan.{placesForChunk}
 use Rattle.text_input.proofs.has_room.Statement.{statement}
 use Rattle.text_input.proofs.has_room.Tie as tie
 
-none : (n room : ℕ) → (n ≡ 0 → ⊥) → room ≡ 0 → false ≡ leb (placesFor n) room
+none : (n room : ℕ) → (n ≡ 0 → ⊥) → room ≡ 0 → false ≡ leb (placesForChunk n) room
 none zero room f e = absurd (f refl)
 none (suc n) room f e = sym (lt-leb (3 * suc n + 1) room (omega arith))
 
-thirds : (n room : ℕ) → (n ≡ 0 → ⊥) → (room ≡ 0 → ⊥) → leb n ((room - 1) / 3) ≡ leb (placesFor n) room
+thirds : (n room : ℕ) → (n ≡ 0 → ⊥) → (room ≡ 0 → ⊥) → leb n ((room - 1) / 3) ≡ leb (placesForChunk n) room
 thirds zero room f g = absurd (f refl)
 thirds (suc n) room f g =
     by-lt ((room - 1) / 3) (suc n)

@@ -6,7 +6,7 @@ use native.Mathlib.Omega.{arith}
 use lib.Dec.{leb, ltb}
 use borrow.Author.Tests.{leb-true, leb-false, lt-ltb, le-ltb}
 use borrow.Author.Needs.{needs}
-use Rattle.text_input.specs.Scan.{placesFor, refusalOf}
+use Rattle.text_input.specs.Scan.{placesForChunk, refusalOf}
 use Rattle.text_input.proofs.refusal.Statement.{statement}
 use Rattle.text_input.proofs.refusal.Tie as tie
 
@@ -32,7 +32,7 @@ returns-4 c =
       e .before .before .if1 .left,
       e .before .if2 .left,
       le-ltb 4294967295 (a .count + a .n) (omega (arith, e .if3 .left)),
-      le-ltb (a .room) (placesFor (a .n)) (leb-true (placesFor (a .n)) (a .room) (sym (c .before .has-room .ensures) ∙ c .if4 .taken)),
+      le-ltb (a .room) (placesForChunk (a .n)) (leb-true (placesForChunk (a .n)) (a .room) (sym (c .before .has-room .ensures) ∙ c .if4 .taken)),
     )
 
 returns-5 : tie.Need-returns-5
@@ -44,7 +44,7 @@ returns-5 c =
       e .before .before .if1 .left,
       e .before .if2 .left,
       le-ltb 4294967295 (a .count + a .n) (omega (arith, e .if3 .left)),
-      lt-ltb (a .room) (placesFor (a .n)) (leb-false (placesFor (a .n)) (a .room) (sym (c .before .has-room .ensures) ∙ c .if4 .left)),
+      lt-ltb (a .room) (placesForChunk (a .n)) (leb-false (placesForChunk (a .n)) (a .room) (sym (c .before .has-room .ensures) ∙ c .if4 .left)),
     )
 
 pub refusal-spec : {M : Type 1} → statement M

@@ -7,7 +7,7 @@ use denote.Ref.{now}
 use lib.ListN.{length}
 use borrow.Author.Tests.{not-true, not-false, ltb-false}
 use Rattle.unicode.specs.Chars.{areChars}
-use Rattle.text_output.specs.Write.{placesFor}
+use Rattle.text_output.specs.Write.{placesForWrite}
 use Rattle.text_write.proofs.Entries.{before-zero, refused-before, refused-char, refused-room, write-ends, end-anywhere, place-sound, place-fits, same-end}
 use borrow.Author.Needs.{needs}
 use Rattle.text_write.proofs.write_str.Statement.{statement}
@@ -55,7 +55,7 @@ run-requires c κs =
     let out = now (a .out) in
     let z : c .before .before .before .before .before .before .before .before .before .refused-before .result ≡ 0 = omega (arith, c .before .before .before .before .before .before .before .before .if1 .left) in
     let f = before-zero w p (sym (c .before .before .before .before .before .before .before .before .before .refused-before .ensures) ∙ z) in
-    let fits : placesFor w (length cs) ≤ length out = ltb-false (length out) (placesFor w (length cs)) (sym (c .before .before .before .before .before .is-short .ensures) ∙ c .before .before .before .before .if3 .left) in
+    let fits : placesForWrite w (length cs) ≤ length out = ltb-false (length out) (placesForWrite w (length cs)) (sym (c .before .before .before .before .before .is-short .ensures) ∙ c .before .before .before .before .if3 .left) in
     let r = c .before .before .place-of .result in
     let e = c .before .before .place-of .ensures in
     (f .1, (place-sound w r (e .0) (e .1) p cs (f .0), (search needs, place-fits w r (e .0) (e .1) p cs (length out) (f .0) fits)))
@@ -79,7 +79,7 @@ returns-4 c =
     let z : c .before .before .before .before .before .before .before .before .before .before .before .before .before .before .before .before .refused-before .result ≡ 0 = omega (arith, c .before .before .before .before .before .before .before .before .before .before .before .before .before .before .before .if1 .left) in
     let f = before-zero w p (sym (c .before .before .before .before .before .before .before .before .before .before .before .before .before .before .before .before .refused-before .ensures) ∙ z) in
     let are : areChars cs ≡ true = sym (c .before .before .before .before .before .before .before .before .before .before .before .before .before .before .are-chars .ensures) ∙ not-false (c .before .before .before .before .before .before .before .before .before .before .before .before .before .before .are-chars .result) (c .before .before .before .before .before .before .before .before .before .before .before .before .before .if2 .left) in
-    let fits : placesFor w (length cs) ≤ length out = ltb-false (length out) (placesFor w (length cs)) (sym (c .before .before .before .before .before .before .before .before .before .before .before .before .is-short .ensures) ∙ c .before .before .before .before .before .before .before .before .before .before .before .if3 .left) in
+    let fits : placesForWrite w (length cs) ≤ length out = ltb-false (length out) (placesForWrite w (length cs)) (sym (c .before .before .before .before .before .before .before .before .before .before .before .before .is-short .ensures) ∙ c .before .before .before .before .before .before .before .before .before .before .before .if3 .left) in
     let r = c .before .before .before .before .before .before .before .before .before .place-of .result in
     let e = c .before .before .before .before .before .before .before .before .before .place-of .ensures in
     let x = c .before .before .before .before .before .before .run .result in

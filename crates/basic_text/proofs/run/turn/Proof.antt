@@ -6,7 +6,7 @@ use native.Mathlib.Omega.{arith}
 use borrow.Author.Needs.{needs}
 use lib.ListN.{length, take}
 use lib.Seq.{sets}
-use Rattle.text_input.specs.Step.{stepOf, outChars}
+use Rattle.text_input.specs.Step.{scanStepOf, outChars}
 use Rattle.unicode.proofs.Lists.{sets-filled}
 use Rattle.text_input.proofs.Room.{step-room}
 use Rattle.basic_text.specs.Exports.{bytesOf}
@@ -16,7 +16,7 @@ use Rattle.basic_text.proofs.run.turn.Tie as tie
 
 -- what the step appends
 abbrev out : tie.Start → List ℕ
-out s = outChars (stepOf (s .args .page .now) (s .args .options) (s .args .r) (s .args .c))
+out s = outChars (scanStepOf (s .args .page .now) (s .args .options) (s .args .r) (s .args .c))
 
 short : (s : tie.Start) → length (out s) ≤ 4
 short s = step-room (s .args .page .now) (s .args .options) (s .args .r) (s .args .c)

@@ -1,20 +1,20 @@
 -- `step` meets its contract: each kind of leaving gives the step that `leftOf` has for it; three of them go on to the ground state.
 use mathlib.Core.Logic.{⊎-elim}
 use borrow.Author.Needs.{needs}
-use Rattle.text_input.specs.Step.{stepOf}
+use Rattle.text_input.specs.Step.{scanStepOf}
 use Rattle.text_input.proofs.TextInput.step.Statement.{statement}
 use Rattle.text_input.proofs.TextInput.step.Tie as tie
 
 returns : tie.Need-returns
-unfolding stepOf
+unfolding scanStepOf
 returns c = simp (← c .before .before .before .before .leave .ensures, c .before .before .left .given .1) (c .made .ensures)
 
 returns-2 : tie.Need-returns-2
-unfolding stepOf
+unfolding scanStepOf
 returns-2 c = simp (← c .before .before .before .leave .ensures, c .before .enum-told .given .1) (c .made2 .ensures)
 
 returns-3 : tie.Need-returns-3
-unfolding stepOf
+unfolding scanStepOf
 returns-3 c =
     let l = c .before .before .leave .ensures in
     ⊎-elim

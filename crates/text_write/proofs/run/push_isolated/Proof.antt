@@ -6,7 +6,7 @@ use denote.Ref.{now}
 use Rattle.check_char.specs.Check.{checkNumbers}
 use Rattle.isolate_unassigned.specs.Meaning.{joiner}
 use Rattle.text_output.specs.declared.TextOutput.{TextOutput}
-use Rattle.text_output.specs.Step.{Stepped, stepOf, stepsOf}
+use Rattle.text_output.specs.Step.{Stepped, writeStepOf, stepsOf}
 use Rattle.text_output.specs.Write.{checked}
 use Rattle.text_write.specs.Inner.{writerAt}
 use Rattle.text_write.proofs.Rest.{steps-joined}
@@ -23,7 +23,7 @@ push-joiner-requires c κs =
     let p = s .pre in
     let w = writerAt (a .w) (now (a .escape)) in
     let first = stepsOf w [] (joiner (a .put)) in
-    let more : TextOutput → Stepped = λ next. stepOf next (checkNumbers (a .c)) (checked (a .c)) in
+    let more : TextOutput → Stepped = λ next. writeStepOf next (checkNumbers (a .c)) (checked (a .c)) in
     let room = rw (steps-joined (a .put) w (checkNumbers (a .c)) (checked (a .c))) at (p .1 .1 .1) in
     (p .1 .0, (p .1 .1 .0, omega (arith, room, first-fits first more)))
 
@@ -34,7 +34,7 @@ push-categorized-requires c κs =
     let p = s .pre in
     let w = writerAt (a .w) (now (a .escape)) in
     let first = stepsOf w [] (joiner (a .put)) in
-    let more : TextOutput → Stepped = λ next. stepOf next (checkNumbers (a .c)) (checked (a .c)) in
+    let more : TextOutput → Stepped = λ next. writeStepOf next (checkNumbers (a .c)) (checked (a .c)) in
     let room = rw (steps-joined (a .put) w (checkNumbers (a .c)) (checked (a .c))) at (p .1 .1 .1) in
     let stays = steps-stay (joiner (a .put)) w [] (p .1 .0) in
     let e = rw (c .before .before .before .before2 .given .1) at (c .before .before .before .before .before .before .before .before .before .push-joiner .ensures) in (
@@ -54,7 +54,7 @@ returns c =
     let a = s .args in
     let w = writerAt (a .w) (now (a .escape)) in
     let first = stepsOf w [] (joiner (a .put)) in
-    let more : TextOutput → Stepped = λ next. stepOf next (checkNumbers (a .c)) (checked (a .c)) in
+    let more : TextOutput → Stepped = λ next. writeStepOf next (checkNumbers (a .c)) (checked (a .c)) in
     let e = rw (c .before .before .before .before .before .before .before .before .before2 .given .1) at (c .before .before .before .before .before .before .before .before .before .before .before .before .before .before .push-joiner .ensures) in
     rw (steps-joined (a .put) w (checkNumbers (a .c)) (checked (a .c)))
     (c .before .before .before .before .push-categorized .ensures ∙ on-then (a .w .at) (now (a .out)) more first _ _ _ e)
@@ -65,7 +65,7 @@ returns-2 c =
     let a = s .args in
     let w = writerAt (a .w) (now (a .escape)) in
     let first = stepsOf w [] (joiner (a .put)) in
-    let more : TextOutput → Stepped = λ next. stepOf next (checkNumbers (a .c)) (checked (a .c)) in
+    let more : TextOutput → Stepped = λ next. writeStepOf next (checkNumbers (a .c)) (checked (a .c)) in
     let e = rw (c .enum-told .given .1) at (c .before .before .before .before .before .before .push-joiner .ensures) in
     rw (steps-joined (a .put) w (checkNumbers (a .c)) (checked (a .c)), c .enum-told .given .1)
     (off-then (a .w .at) (now (a .out)) more first _ (c .enum-told .given .0 .1 .0) _ _ e)
