@@ -1,7 +1,7 @@
 // Filling bytes from the queue of the scanner: the part of `read_with_status` in text_input.rs that encodes the queue, and
 // `clear_to_char_boundary`. It needs no record.
-use text_input::TextInput;
 use unicode::MAX_UTF8_SIZE;
+use unicode::NORMALIZATION_BUFFER_SIZE;
 use unicode::are_chars;
 use unicode::write_utf8;
 ghost use mathlib.Core.Path.{_≡_};
@@ -73,7 +73,7 @@ fn encode_queue(queue: &[u32], buf: &mut [u8]) -> Encoded
 pub fn fill(queue: &[u32], buf: &mut [u8]) -> Filled
     ensures { λ r. ⌜ fillOutcome r (now (buf .exit)) ≡ fillOf (now (queue .entry)) (now (buf .entry)) ⌝ }
 {
-    if buf.len() < TextInput::NORMALIZATION_BUFFER_SIZE {
+    if buf.len() < NORMALIZATION_BUFFER_SIZE {
         return Filled::Refused(7);
     }
     if are_chars(queue) {

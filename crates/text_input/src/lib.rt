@@ -78,7 +78,7 @@ pub struct Ran {
 }
 
 impl TextInput {
-    // The least size of a byte buffer to fill: 136.
+    // The least size of a byte buffer to fill, which `text_fill` tests: 136.
     pub const NORMALIZATION_BUFFER_SIZE: usize = unicode::NORMALIZATION_BUFFER_SIZE;
 
     // A record as first made.
