@@ -3,15 +3,14 @@
 --     Zeroing, zero-begin, -again, -met, -ended    the loop of `clear_to_char_boundary`
 --     Encoding, encode-begin, -asks, -again, -full, -ended   the loop of `encode_queue`
 --     filled-is                                    both one after the other are `fillOf`
-use Prim.Native.Nat.{ℕ, zero, suc, _+_, _-_, _≤_, _<_}
-use mathlib.Core.Path.{_≡_, refl, sym, ap, _∙_}
+use Prim.Native.Nat.{ℕ, suc, _+_, _-_, _≤_, _<_}
+use mathlib.Core.Path.{_≡_, refl, sym, _∙_}
 use mathlib.Core.Bool.{Bool, true, false, cond, _&&_}
 use mathlib.Core.List.{List, [], _∷_, _++_, append-assoc, append-nil}
 use native.Mathlib.Omega.{arith}
 use native.Mathlib.Nat.{zero-add, sub-zero}
 use native.Mathlib.Numerals.{add-one}
 use borrow.Author.Tests.{lt-ltb, le-ltb}
-use lib.Dec.{ltb}
 use lib.ListN.{length, getD, take, drop, set, length-append, length-set, drop-of-length-le, take-append-drop}
 use lib.Seq.{sets, sets-eq, length-sets, drop-cons, take-suc-set, drop-set-lt, take-length, drop-length, drop-append-seam, take-append-seam}
 use Rattle.unicode.specs.Chars.{isChar, areChars}
