@@ -3,10 +3,12 @@
 --     split         a fact of a `cond` by its two cases
 --     never         what follows from a contradiction
 --     both-true     the parts of an `&&` that holds
+--     or-cases      an `||` that holds, by its parts
 --     tests         `search tests` closes a return of an `if` chain whose definition is a chain of `cond` over the same tests
 use Prim.Native.Nat.{ℕ, _≤_, _<_}
 use mathlib.Core.Path.{_≡_, refl, sym, _∙_}
-use mathlib.Core.Bool.{Bool, true, false, cond, _&&_}
+use mathlib.Core.Bool.{Bool, true, false, cond, _&&_, _||_}
+use mathlib.Core.Logic.{_⊎_, inl, inr}
 use native.Mathlib.Omega.{arith}
 use lib.Dec.{ltb}
 use borrow.Author.Tests.{ltb-true, ltb-false, eq-eqb, ne-eqb, lt-ltb, le-ltb, le-leb, lt-leb}
@@ -28,6 +30,10 @@ split P false f g = g refl
 pub both-true : (b c : Bool) → b && c ≡ true → (b ≡ true) × (c ≡ true)
 both-true true c h = (refl, h)
 both-true false c h = never h
+
+pub or-cases : (b c : Bool) → b || c ≡ true → (b ≡ true) ⊎ (c ≡ true)
+or-cases true c h = inl refl
+or-cases false c h = inr h
 
 pub both : {b c : Bool} → b ≡ true → c ≡ true → b && c ≡ true
 both p q = rw (p, q)

@@ -5,4 +5,5 @@ pub mod Rows
 pub mod Steps
 pub mod Grammar
 pub mod Texts
+pub mod Ascii
 pub mod Examples

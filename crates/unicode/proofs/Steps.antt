@@ -47,9 +47,8 @@ begins-cons w ws bs at next h n e r = rw (drop-cons bs at 0 h, ← add-one at, �
 abbrev pub leadOf : ℕ → List ℕ → ℕ → Utf8Step
 leadOf b bs at =
     cond (ltb b 0x80) (Char b (at + 1))
-    (cond (ltb b 0xC0) Stop
-    (cond (ltb b 0xE0) (twoOf bs at (b - 0xC0))
-    (cond (ltb b 0xF0) (threeOf bs at (b - 0xE0)) (cond (ltb b 0xF8) (fourOf bs at (b - 0xF0)) Stop))))
+    (cond (ltb b 0xE0) (cond (ltb b 0xC0) Stop (twoOf bs at (b - 0xC0)))
+    (cond (ltb b 0xF0) (threeOf bs at (b - 0xE0)) (cond (ltb b 0xF8) (fourOf bs at (b - 0xF0)) Stop)))
 
 abbrev machine : List ℕ → ℕ → Utf8Step
 machine bs at = cond (leb (length bs) at) Stop (leadOf (getD bs at 0) bs at)
@@ -105,7 +104,6 @@ module _ (bs : List ℕ) (at c : ℕ) (s : Stands bs at c) where
       lead _ e b (omega arith) refl
       ∙ simp (
         le-ltb b 0x80 (omega arith),
-        le-ltb b 0xC0 (omega arith),
         le-ltb b 0xE0 (omega arith),
         lt-ltb b 0xF0 (omega arith),
         tail _ e 1 (b - 0xE0) (c / 64 % 64) (c / 64) (omega arith) (omega arith) refl (omega arith),
@@ -120,7 +118,6 @@ module _ (bs : List ℕ) (at c : ℕ) (s : Stands bs at c) where
       lead _ e b (omega arith) refl
       ∙ simp (
         le-ltb b 0x80 (omega arith),
-        le-ltb b 0xC0 (omega arith),
         le-ltb b 0xE0 (omega arith),
         le-ltb b 0xF0 (omega arith),
         lt-ltb b 0xF8 (omega arith),
@@ -221,10 +218,10 @@ module _ (bs : List ℕ) (at : ℕ) where
     lead-sound : Sound bs at (leadOf b bs at)
     lead-sound =
         split (Sound bs at) (ltb b 0x80) (λ p. one-sound (ltb-true b 0x80 p))
-        (λ _. split (Sound bs at) (ltb b 0xC0) (λ _. tt)
-        (λ p. split (Sound bs at) (ltb b 0xE0) (λ q. two-sound (ltb-false b 0xC0 p) (ltb-true b 0xE0 q))
+        (λ _. split (Sound bs at) (ltb b 0xE0)
+        (λ q. split (Sound bs at) (ltb b 0xC0) (λ _. tt) (λ p. two-sound (ltb-false b 0xC0 p) (ltb-true b 0xE0 q)))
         (λ q. split (Sound bs at) (ltb b 0xF0) (λ r. three-sound (ltb-false b 0xE0 q) (ltb-true b 0xF0 r))
-        (λ r. split (Sound bs at) (ltb b 0xF8) (λ t. four-sound (ltb-false b 0xF0 r) (ltb-true b 0xF8 t)) (λ _. tt)))))
+        (λ r. split (Sound bs at) (ltb b 0xF8) (λ t. four-sound (ltb-false b 0xF0 r) (ltb-true b 0xF8 t)) (λ _. tt))))
 
   sound : Sound bs at (machine bs at)
   sound = split (Sound bs at) (leb (length bs) at) (λ _. tt) (λ p. lead-sound _ refl (leb-false (length bs) at p))

@@ -5,7 +5,7 @@
 --     decode-encode            decoding the encoding of characters gives them
 --     encode-decode            encoding what was decoded gives the bytes of the prefix
 --     length-decode            no more characters are decoded than there are places
---     Going, Decoding          what holds at the head of the loops of `valid_prefix` and `decode_utf8`
+--     Decoding                 what holds at the head of the loops of `valid_prefix` and `decode_utf8`
 use Prim.Native.Nat.{ℕ, zero, suc, _+_, _-_, _≤_, _<_}
 use mathlib.Core.Path.{_≡_, refl, sym, ap, _∙_}
 use mathlib.Core.Bool.{Bool, true, false, _&&_}
@@ -16,13 +16,14 @@ use native.Mathlib.Numerals.{add-one}
 use borrow.Author.Tests.{eq-eqb, eqb-true}
 use lib.Dec.{eqb}
 use lib.ListN.{length, take, drop, set, length-append, length-take, length-set}
-use lib.Seq.{drop-drop, take-all, sets, sets-eq}
+use lib.Seq.{drop-drop, take-all, sets}
 use Rattle.unicode.specs.declared.utf8.Prefix.{Prefix}
 use Rattle.unicode.specs.declared.utf8.Utf8Step.{Utf8Step}
 use Rattle.unicode.specs.declared.utf8.Utf8Step.the-variants.{Char, Stop}
 use Rattle.unicode.specs.Chars.{isChar, areChars}
 use Rattle.unicode.specs.Utf8.{encodeOf, encodeAll, begins, Stands, utf8StepOf, onChar, charsFrom, charsOf, LongestPrefix, countsOf, decodeOf, decodePlaces}
 use Rattle.unicode.proofs.Kit.{never, both-true, both}
+use Rattle.unicode.proofs.Lists.{sets-filled}
 use Rattle.unicode.proofs.Rows.{length-encode}
 use Rattle.unicode.proofs.Steps.{begins-long, stands-inside, step-exactly}
 
@@ -152,91 +153,56 @@ pub stop-from : (bs : List ℕ) (f at : ℕ) → utf8StepOf bs at ≡ Stop → c
 stop-from bs zero at e = refl
 stop-from bs (suc f) at e = rw e
 
-module _ (bs : List ℕ) (room : ℕ) where
-  -- what is to be decoded into so many places
-  abbrev whole : List ℕ
-  whole = take room (charsOf bs)
+take-none : (n : ℕ) → _≡_ {A = List ℕ} (take n []) []
+take-none zero = refl
+take-none (suc n) = refl
 
+module _ (bs out₀ : List ℕ) where
   -- what is left to decode after k characters, at the place `at`
-  abbrev pub left : ℕ → ℕ → List ℕ
-  left k at = take (room - k) (charsFrom (length bs - k) bs at)
+  abbrev left : ℕ → ℕ → List ℕ
+  left k at = take (length out₀ - k) (charsFrom (length bs - k) bs at)
 
-  -- at the head of the loop: what is left leads to the same counts as the whole
-  pub record Going (k at : ℕ) : Type 0 where
+  -- at the head of the loop: what is left leads to the counts of the whole, and storing it to the places
+  pub record Decoding (out : List ℕ) (k at : ℕ) : Type 0 where
     pub low : k ≤ at
-    pub inside : at ≤ length bs
-    pub fits : k ≤ room
-    pub count : k + length (left k at) ≡ length (whole)
-    pub place : at + length (encodeAll (left k at)) ≡ length (encodeAll (whole))
+    pub fits : k ≤ length out₀
+    pub same : length out ≡ length out₀
+    pub count : k + length (left k at) ≡ length (decodeOf bs out₀)
+    pub place : at + length (encodeAll (left k at)) ≡ length (encodeAll (decodeOf bs out₀))
+    pub places : sets out k (left k at) ≡ decodePlaces bs out₀
 
-  left-begin : left 0 0 ≡ whole
+  left-begin : left 0 0 ≡ decodeOf bs out₀
   unfolding charsOf
   left-begin = rw (sub-zero, sub-zero)
 
-  left-turn : (k at c next : ℕ) → k < room → k ≤ at → utf8StepOf bs at ≡ Char c next → left k at ≡ c ∷ left (k + 1) next
+  left-turn : (k at c next : ℕ) → k < length out₀ → k ≤ at → utf8StepOf bs at ≡ Char c next → left k at ≡ c ∷ left (k + 1) next
   left-turn k at c next h l e =
-      let p : room - k ≡ suc (room - (k + 1)) = omega arith in
+      let p : length out₀ - k ≡ suc (length out₀ - (k + 1)) = omega arith in
       let q : length bs - k ≡ suc (length bs - (k + 1)) = omega (arith, step-on bs at c next e) in
       rw (p, q, e)
 
-  left-full : (at : ℕ) → left room at ≡ []
-  left-full at = let p : room - room ≡ 0 = omega arith in rw p
-
-  take-none : (n : ℕ) → _≡_ {A = List ℕ} (take n []) []
-  take-none zero = refl
-  take-none (suc n) = refl
-
-  left-stop : (k at : ℕ) → utf8StepOf bs at ≡ Stop → left k at ≡ []
-  left-stop k at e = rw (stop-from bs (length bs - k) at e) (take-none (room - k))
-
-  pub begin : Going 0 0
-  begin = record { low = omega arith; inside = omega arith; fits = omega arith; count = rw (left-begin, zero-add); place = rw (left-begin, zero-add) }
-
-  pub again : (k at c next : ℕ) → Going k at → k < room → utf8StepOf bs at ≡ Char c next → Going (k + 1) next
-  again k at c next g h e =
-      let l = left-turn k at c next h (g .low) e in
-      let s = step-exactly bs at c next .0 e in
-      let o = step-on bs at c next e in
-      record {
-        low = omega (arith, g .low);
-        inside = o .1;
-        fits = omega arith;
-        count = omega (arith, simp l at (g .count));
-        place = omega (arith, s .1, simp (l, length-append) at (g .place));
-      }
-
-  ended : (k at : ℕ) → Going k at → left k at ≡ [] → _≡_ {A = Prefix} (record { chars = k; bytes = at }) (countsOf (whole))
-  ended k at g h =
-      let p : k ≡ length (whole) = omega (arith, simp h at (g .count)) in
-      let q : at ≡ length (encodeAll (whole)) = omega (arith, simp h at (g .place)) in
-      cc
-
-pub ended-all : (bs : List ℕ) (k at : ℕ) → Going bs (length bs) k at → utf8StepOf bs at ≡ Stop → _≡_ {A = Prefix} (record { chars = k; bytes = at }) (countsOf (charsOf bs))
-ended-all bs k at g e = ended bs (length bs) k at g (left-stop bs (length bs) k at e) ∙ ap countsOf (decode-all bs)
-
-module _ (bs out₀ : List ℕ) where
-  -- at the head of the loop: storing what is left gives what storing the whole gives
-  pub record Decoding (out : List ℕ) (k at : ℕ) : Type 0 where
-    pub going : Going bs (length out₀) k at
-    pub same : length out ≡ length out₀
-    pub places : sets out k (left bs (length out₀) k at) ≡ decodePlaces bs out₀
-
   pub decoding-begin : Decoding out₀ 0 0
   decoding-begin =
-      let ds = decodeOf bs out₀ in
       record {
-        going = begin bs (length out₀);
+        low = omega arith;
+        fits = omega arith;
         same = refl;
-        places = rw (left-begin bs (length out₀)) (rw zero-add at (sets-eq ds out₀ 0 (rw zero-add (length-decode bs out₀))));
+        count = rw (left-begin, zero-add);
+        place = rw (left-begin, zero-add);
+        places = rw left-begin (sets-filled (decodeOf bs out₀) out₀ (length-decode bs out₀));
       }
 
   pub decoding-again : (out : List ℕ) (k at c next : ℕ) → Decoding out k at → k < length out → utf8StepOf bs at ≡ Char c next
       → Decoding (set out k c) (k + 1) next
   decoding-again out k at c next d h e =
-      let l = left-turn bs (length out₀) k at c next (omega (arith, d .same)) (d .going .low) e in
+      let l = left-turn k at c next (omega (arith, d .same)) (d .low) e in
+      let s = step-exactly bs at c next .0 e in
       record {
-        going = again bs (length out₀) k at c next (d .going) (omega (arith, d .same)) e;
+        low = omega (arith, d .low, step-on bs at c next e);
+        fits = omega (arith, d .same);
         same = length-set out k c ∙ d .same;
+        count = omega (arith, simp l at (d .count));
+        place = omega (arith, s .1, simp (l, length-append) at (d .place));
         places = rw add-one (rw (l, add-one) at (d .places));
       }
 
@@ -245,13 +211,21 @@ module _ (bs out₀ : List ℕ) where
       (_≡_ {A = Prefix} (record { chars = k; bytes = at }) (countsOf (decodeOf bs out₀)))
       × (out ≡ decodePlaces bs out₀)
 
-  decoding-ended : (out : List ℕ) (k at : ℕ) → Decoding out k at → left bs (length out₀) k at ≡ [] → Stored out k at
-  decoding-ended out k at d h = (ended bs (length out₀) k at (d .going) h, rw h at (d .places))
+  decoding-ended : (out : List ℕ) (k at : ℕ) → Decoding out k at → left k at ≡ [] → Stored out k at
+  decoding-ended out k at d h =
+      let p : k ≡ length (decodeOf bs out₀) = omega (arith, simp h at (d .count)) in
+      let q : at ≡ length (encodeAll (decodeOf bs out₀)) = omega (arith, simp h at (d .place)) in
+      ((cc), rw h at (d .places))
 
   pub decoding-full : (out : List ℕ) (k at : ℕ) → Decoding out k at → length out ≤ k → Stored out k at
   decoding-full out k at d h =
-      let e : k ≡ length out₀ = omega (arith, d .same, d .going .fits) in
-      decoding-ended out k at d (rw e (left-full bs (length out₀) at))
+      let z : length out₀ - k ≡ 0 = omega (arith, d .same, d .fits) in
+      decoding-ended out k at d (rw z)
 
   pub decoding-stop : (out : List ℕ) (k at : ℕ) → Decoding out k at → utf8StepOf bs at ≡ Stop → Stored out k at
-  decoding-stop out k at d e = decoding-ended out k at d (left-stop bs (length out₀) k at e)
+  decoding-stop out k at d e = decoding-ended out k at d (rw (stop-from bs (length bs - k) at e) (take-none (length out₀ - k)))
+
+-- decoding into as many places as there are bytes takes the whole prefix
+pub decoding-all : (bs out : List ℕ) (k at : ℕ) → Decoding bs bs out k at → utf8StepOf bs at ≡ Stop
+    → _≡_ {A = Prefix} (record { chars = k; bytes = at }) (countsOf (charsOf bs))
+decoding-all bs out k at d e = decoding-stop bs bs out k at d e .0 ∙ ap countsOf (decode-all bs)

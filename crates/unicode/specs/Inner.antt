@@ -1,9 +1,11 @@
 -- What the private functions of src/utf8.rt answer, step by step: the rows of RFC 3629, section 3, read byte by byte. Document 01,
 -- "The shape each place takes": "The UTF-8 step answers an enum". No public contract cites this file. Assumes nothing.
-use Prim.Native.Nat.{ℕ, _+_, _-_, _*_}
+use Prim.Native.Nat.{ℕ, _+_, _-_, _*_, _≤_, _<_}
+use mathlib.Core.Path.{_≡_}
 use mathlib.Core.Bool.{cond, _&&_}
 use mathlib.Core.List.{List}
-use lib.ListN.{getD}
+use lib.ListN.{length, getD, take, drop}
+use lib.Seq.{sets}
 use lib.Dec.{leb}
 use Rattle.unicode.specs.declared.utf8.Bits.{Bits}
 use Rattle.unicode.specs.declared.utf8.Bits.the-variants.{Read, Broken}
@@ -36,3 +38,20 @@ abbrev pub fourOf : List ℕ → ℕ → ℕ → Utf8Step
 fourOf bs at lead =
     onBits (moreOf bs (at + 1) lead)
     (λ v. onBits (moreOf bs (at + 2) v) (λ w. onBits (moreOf bs (at + 3) w) (λ x. keptOf 0x10000 x (at + 4))))
+
+-- ---- ASCII
+-- all bytes from place f up to place t are below 80
+abbrev pub Ascii : List ℕ → ℕ → ℕ → Type 0
+Ascii bs f t = (x : ℕ) → f ≤ x → x < t → getD bs x 0 < 0x80
+
+-- the same, where t is not past stop
+pub record AsciiTo (bs : List ℕ) (f stop t : ℕ) : Type 0 where
+  pub begun : f ≤ t
+  pub low : t ≤ stop
+  pub each : Ascii bs f t
+
+-- the same, where out has room for them from place k on, and is `after` with them stored there
+pub record AsciiIn (bs : List ℕ) (f : ℕ) (out : List ℕ) (k t : ℕ) (after : List ℕ) : Type 0 where
+  pub to : AsciiTo bs f (length bs) t
+  pub room : k + (t - f) ≤ length out
+  pub places : after ≡ sets out k (take (t - f) (drop f bs))

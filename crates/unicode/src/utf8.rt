@@ -7,7 +7,7 @@ ghost use Prim.Native.Nat.{_+_, _≤_, _<_};
 ghost use lib.ListN.{length};
 ghost use Rattle.unicode.specs.Chars.{isChar};
 ghost use Rattle.unicode.specs.Utf8.{encodeOf, utf8StepOf, charsOf, countsOf, decodeOf, decodePlaces, encodedNumbers, encodeAnswer, encodeBytes, withBytes};
-ghost use Rattle.unicode.specs.Inner.{moreOf, keptOf, twoOf, threeOf, fourOf};
+ghost use Rattle.unicode.specs.Inner.{moreOf, keptOf, twoOf, threeOf, fourOf, Ascii, AsciiTo, AsciiIn};
 
 // What stands at a place: a character with the place after it, or none.
 pub enum Utf8Step {
@@ -94,7 +94,8 @@ fn four(bytes: &[u8], at: usize, lead: u32) -> Utf8Step
     kept(0x10000, x, at + 4)
 }
 
-// The character whose encoding stands at a place, with the place after it. Total: any bytes, any place.
+// The character whose encoding stands at a place, with the place after it. Total: any bytes, any place. Five tests lead to `four`:
+// behind a sixth the compiler would leave it a call, through whose memory every answer would go.
 pub fn utf8_step(bytes: &[u8], at: usize) -> Utf8Step
     ensures { λ r. ⌜ r ≡ utf8StepOf (now (bytes .entry)) at ⌝ }
 {
@@ -105,10 +106,10 @@ pub fn utf8_step(bytes: &[u8], at: usize) -> Utf8Step
     if b < 0x80 {
         return Utf8Step::Char(b, at + 1);
     }
-    if b < 0xc0 {
-        return Utf8Step::Stop;
-    }
     if b < 0xe0 {
+        if b < 0xc0 {
+            return Utf8Step::Stop;
+        }
         return two(bytes, at, b - 0xc0);
     }
     if b < 0xf0 {
@@ -126,23 +127,90 @@ pub struct Prefix {
     pub bytes: usize,
 }
 
-// The longest valid prefix. Total. The loop ends where the step finds no character.
+// Whether so many bytes from a place on are below 80. The loop has no early exit, so that it can be vectorised.
+fn ascii_block(bytes: &[u8], at: usize, size: usize) -> bool
+    requires { ⌜ at + size ≤ length (now bytes) ⌝ }
+    ensures { λ r. ⌜ (r ≡ true → Ascii (now (bytes .entry)) at (at + size)) ⌝ }
+{
+    let mut good = true;
+    let mut tested = 0;
+    while tested < size {
+        good = good & (bytes[at + tested] < 0x80);
+        tested += 1;
+    }
+    good
+}
+
+// A place up to which all bytes from `from` on are below 80, and not past `stop`: by blocks of one size.
+fn ascii_blocks(bytes: &[u8], from: usize, stop: usize, size: usize) -> usize
+    requires { ⌜ (from ≤ stop) × (stop ≤ length (now bytes)) ⌝ }
+    requires { ⌜ 0 < size ⌝ }
+    ensures { λ r. ⌜ AsciiTo (now (bytes .entry)) from stop r ⌝ }
+{
+    let mut i = from;
+    while size <= stop - i {
+        if !ascii_block(bytes, i, size) {
+            return i;
+        }
+        i += size;
+    }
+    i
+}
+
+// The same by blocks of 64, of 16, and one by one. Each size is a number here, by which the loop of `ascii_block` is unrolled.
+fn ascii_end(bytes: &[u8], from: usize, stop: usize) -> usize
+    requires { ⌜ (from ≤ stop) × (stop ≤ length (now bytes)) ⌝ }
+    ensures { λ r. ⌜ AsciiTo (now (bytes .entry)) from stop r ⌝ }
+{
+    let a = ascii_blocks(bytes, from, stop, 64);
+    let b = ascii_blocks(bytes, a, stop, 16);
+    ascii_blocks(bytes, b, stop, 1)
+}
+
+// The longest valid prefix. Total. The ASCII after an ASCII character is stepped over at once. The loop ends where the step
+// finds no character.
 pub fn valid_prefix(bytes: &[u8]) -> Prefix
     ensures { λ r. ⌜ r ≡ countsOf (charsOf (now (bytes .entry))) ⌝ }
 {
     let mut chars = 0;
     let mut at = 0;
     loop {
-        let Utf8Step::Char(_, next) = utf8_step(bytes, at) else {
+        let Utf8Step::Char(c, next) = utf8_step(bytes, at) else {
             return Prefix { chars, bytes: at };
         };
         chars += 1;
         at = next;
+        if c < 0x80 {
+            at = ascii_end(bytes, next, bytes.len());
+            chars = chars + (at - next);
+        }
     }
 }
 
+fn lesser(a: usize, b: usize) -> usize
+    ensures { λ r. ⌜ (r ≤ a) × (r ≤ b) ⌝ }
+{
+    if a < b { a } else { b }
+}
+
+// Stores the ASCII from `from` on in the places of out from `at` on, as much as they take, and answers the place after it.
+fn decode_ascii(bytes: &[u8], from: usize, out: &mut [u32], at: usize) -> usize
+    requires { ⌜ (from ≤ length (now bytes)) × (at ≤ length (now out)) ⌝ }
+    ensures { λ r. ⌜ AsciiIn (now (bytes .entry)) from (now (out .entry)) at r (now (out .exit)) ⌝ }
+{
+    let stop = from + lesser(bytes.len() - from, out.len() - at);
+    let end = ascii_end(bytes, from, stop);
+    let run = &bytes[from..end];
+    let mut j = 0;
+    while j < run.len() {
+        out[at + j] = wide(run[j]);
+        j += 1;
+    }
+    end
+}
+
 // The characters of the longest valid prefix into out, as many as it has places for. Total: the places after them stay as
-// they were.
+// they were. The ASCII after an ASCII character is stored at once.
 pub fn decode_utf8(bytes: &[u8], out: &mut [u32]) -> Prefix
     ensures counts { λ r. ⌜ r ≡ countsOf (decodeOf (now (bytes .entry)) (now (out .entry))) ⌝ }
     ensures places { λ r. ⌜ now (out .exit) ≡ decodePlaces (now (bytes .entry)) (now (out .entry)) ⌝ }
@@ -156,6 +224,10 @@ pub fn decode_utf8(bytes: &[u8], out: &mut [u32]) -> Prefix
         out[chars] = c;
         chars += 1;
         at = next;
+        if c < 0x80 {
+            at = decode_ascii(bytes, next, out, chars);
+            chars = chars + (at - next);
+        }
     }
     Prefix { chars, bytes: at }
 }

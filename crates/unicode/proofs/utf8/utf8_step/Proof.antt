@@ -14,7 +14,7 @@ returns-2 c = rw (← lead-step _ _ _ (c .before .before .before .if1 .left) (c 
 
 returns-3 : tie.Need-returns-3
 returns-3 c =
-    let d = c .before .before in
+    let d = c .before .before .before in
     rw (← lead-step _ _ _ (d .before .before .if1 .left) (d .wide .ensures)) (search tests)
 
 returns-4 : tie.Need-returns-4
@@ -24,17 +24,17 @@ returns-4 c =
 
 returns-5 : tie.Need-returns-5
 returns-5 c =
-    let d = c .before .before .before .before .before in
+    let d = c .before .before .before .before in
     rw (← lead-step _ _ _ (d .before .before .if1 .left) (d .wide .ensures)) (search tests depth 10)
 
 returns-6 : tie.Need-returns-6
 returns-6 c =
-    let d = c .before .before .before .before .before .before in
+    let d = c .before .before .before .before .before in
     rw (← lead-step _ _ _ (d .before .before .if1 .left) (d .wide .ensures)) (search tests depth 10)
 
 returns-7 : tie.Need-returns-7
 returns-7 c =
-    let d = c .before .before .before .before .before in
+    let d = c .before .before .before .before in
     rw (← lead-step _ _ _ (d .before .before .if1 .left) (d .wide .ensures)) (search tests depth 10)
 
 pub utf8-step-spec : {M : Type 1} → statement M

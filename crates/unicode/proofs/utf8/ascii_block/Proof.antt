@@ -1,0 +1,56 @@
+-- `ascii_block` meets its contract: where the flag holds, all bytes that were tested are below 80.
+use Prim.Native.Nat.{ℕ, _+_, _-_, _≤_, _<_}
+use mathlib.Core.Path.{_≡_}
+use mathlib.Core.Bool.{Bool, true, _&&_}
+use mathlib.Core.List.{List}
+use lib.Dec.{ltb}
+use lib.ListN.{getD}
+use native.Mathlib.Omega.{arith}
+use borrow.Author.Needs.{needs}
+use borrow.Author.Tests.{ltb-true}
+use Rattle.unicode.specs.Inner.{Ascii}
+use Rattle.unicode.proofs.Kit.{both-true}
+use Rattle.unicode.proofs.Ascii.{none, one, joined}
+use Rattle.unicode.proofs.utf8.ascii_block.Statement.{statement}
+use Rattle.unicode.proofs.utf8.ascii_block.Tie as tie
+
+record Good (bs : List ℕ) (at size : ℕ) (good : Bool) (tested : ℕ) : Type 0 where
+  each : good ≡ true → Ascii bs at (at + tested)
+  low : tested ≤ size
+
+-- where no byte was tested, nothing is said
+begin : (bs : List ℕ) (at size tested : ℕ) → tested ≤ 0 → Good bs at size true tested
+begin bs at size tested h = record { each = λ t. none bs at (at + tested) (omega arith); low = omega arith }
+
+again : (bs : List ℕ) (at size : ℕ) (good : Bool) (j : ℕ) → Good bs at size good j → j < size
+    → Good bs at size (good && ltb (getD bs (at + j) 0) 0x80) (j + 1)
+again bs at size good j g l =
+    record {
+      each = λ t.
+          let x = both-true good (ltb (getD bs (at + j) 0) 0x80) t in
+          joined bs at (at + j) (at + (j + 1)) (g .each (x .0)) (one bs (at + j) (at + (j + 1)) (omega arith) (ltb-true _ _ (x .1)));
+      low = omega arith;
+    }
+
+ended : (bs : List ℕ) (at size : ℕ) (good : Bool) (j : ℕ) → Good bs at size good j → size ≤ j → good ≡ true → Ascii bs at (at + size)
+ended bs at size good j g l t = let e : j ≡ size = omega (arith, g .low) in rw e at (g .each t)
+
+abbrev Inv-loop : tie.InvT-loop
+Inv-loop bytes at size good₀ tested₀ good tested = Good bytes at size good tested
+
+abbrev μ-loop : tie.MeasureT-loop
+μ-loop bytes at size good₀ tested₀ good tested = size - tested
+
+pub ascii-block-spec : {M : Type 1} → statement M
+ascii-block-spec =
+    tie.close
+    (tie.spec
+    Inv-loop
+    μ-loop
+    (λ c. begin _ _ _ _ (omega arith))
+    (λ c. search needs)
+    (λ c. search needs)
+    (λ c. search needs)
+    (λ c. search needs)
+    (λ c. again _ _ _ _ _ (c .before .before .loop .inv) (c .before .loop-test .taken))
+    (λ c. ended _ _ _ _ _ (c .before .loop .inv) (c .loop-test .left)))
