@@ -1,7 +1,7 @@
 -- The classes at the characters on which all above them rests. Assumes nothing.
 --     one-char             being a character, as a range of one
 --     start-low            below 300 a start is a starter
---     end-low              below 600 every character is an end
+--     end-clear            in a span that no table meets every character but 200D is an end: one test, which antt computes
 --     start-newline ..     on every accepted page 0A, 20 and 34F are starts
 --     end-newline ..       0A, 20 and 34F are ends
 --     class-back           an answer read back from its numbers: no two answers list alike
@@ -12,16 +12,16 @@ use Prim.Native.Nat.{ℕ, _≤_, _<_}
 use native.Mathlib.Omega.{arith}
 use lib.Dec.{leb, eqb}
 use borrow.Author.Tests.{eq-eqb, ne-eqb, le-leb, lt-leb}
-use Rattle.unicode.proofs.Kit.{by-lt}
-use Rattle.ranges.specs.Ranges.{member}
-use Rattle.ranges.proofs.Laws.{member-below}
+use Rattle.unicode.proofs.Kit.{by-lt, both-true}
+use Rattle.ranges.specs.Ranges.{member, firstsOf, lastsOf}
+use Rattle.ranges.proofs.Laws.{member-below, clears, member-clear}
 use Rattle.page.specs.Page.{accepted, nonstarter}
 use Rattle.page.proofs.PageLaws.{facts-of-accepted}
 use Rattle.text_utils.specs.declared.Class.{Class}
 use Rattle.text_utils.specs.declared.Class.the-variants.{Is, Refused}
-use Rattle.text_utils.specs.Tables.{graphemeExtend, emojiModifier, spacingMark, spacingMarkExceptions}
+use Rattle.text_utils.specs.Tables.{graphemeExtend, emojiModifier, spacingMark, spacingMarkExceptions, consonantPrecedingRepha, consonantPrefixed, prependedConcatenationMark}
 use Rattle.text_utils.specs.Classes.{listed, starter, graphemeExtendNotCgj, spacingMarkPlus, basicTextStart, basicTextEnd, classNumbers}
-use Rattle.text_utils.proofs.Rising.{high-extend, high-emoji, high-spacing, high-repha, high-prefixed, high-prepended}
+use Rattle.text_utils.proofs.Rising.{high-extend, high-emoji, high-spacing}
 
 -- being m, as a range of one character
 pub one-char : (m c : ℕ) → leb m c && leb c m ≡ eqb c m
@@ -43,15 +43,24 @@ start-low p c h =
       and-true,
     )
 
-pub end-low : (c : ℕ) → c < 0x600 → true ≡ basicTextEnd c
-unfolding basicTextEnd
-end-low c h =
-    simp (
-      ne-eqb c 0x200d (λ e. omega arith),
-      member-below 0x600 _ _ high-repha c h,
-      member-below 0x600 _ _ high-prefixed c h,
-      member-below 0x600 _ _ high-prepended c h,
-    )
+module _ (lo hi : ℕ) where
+  -- no range of the table meets the span
+  abbrev clearOf : List (ℕ × ℕ) → Bool
+  clearOf t = clears lo hi (firstsOf t) (lastsOf t)
+
+  -- no table that an end is tested by meets it
+  abbrev pub endsClear : Bool
+  endsClear = clearOf consonantPrecedingRepha && (clearOf consonantPrefixed && clearOf prependedConcatenationMark)
+
+  pub end-clear : endsClear ≡ true → (c : ℕ) → lo ≤ c → c ≤ hi → basicTextEnd c ≡ not (eqb c 0x200d)
+  unfolding basicTextEnd
+  end-clear t c l h =
+      let x = both-true (clearOf consonantPrecedingRepha) (clearOf consonantPrefixed && clearOf prependedConcatenationMark) t in
+      let y = both-true (clearOf consonantPrefixed) (clearOf prependedConcatenationMark) (x .1) in
+      simp (none consonantPrecedingRepha (x .0), none consonantPrefixed (y .0), none prependedConcatenationMark (y .1), and-true)
+    where
+      none : (u : List (ℕ × ℕ)) → clearOf u ≡ true → listed u c ≡ false
+      none u e = member-clear lo hi c l h (firstsOf u) (lastsOf u) e
 
 module _ (p : List ℕ) (a : accepted p ≡ true) where
   pub start-newline : basicTextStart p 0xa ≡ true
@@ -67,13 +76,13 @@ module _ (p : List ℕ) (a : accepted p ≡ true) where
   start-joiner = simp (facts-of-accepted p a .nonstarter-34f)
 
 pub end-newline : basicTextEnd 0xa ≡ true
-end-newline = sym (end-low 0xa (omega arith))
+end-newline = end-clear 0 0x5ff refl 0xa (omega arith) (omega arith)
 
 pub end-space : basicTextEnd 0x20 ≡ true
-end-space = sym (end-low 0x20 (omega arith))
+end-space = end-clear 0 0x5ff refl 0x20 (omega arith) (omega arith)
 
 pub end-joiner : basicTextEnd 0x34f ≡ true
-end-joiner = sym (end-low 0x34f (omega arith))
+end-joiner = end-clear 0 0x5ff refl 0x34f (omega arith) (omega arith)
 
 -- the answer of these numbers
 abbrev pub classOf : List ℕ → Class

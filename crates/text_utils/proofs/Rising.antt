@@ -5,7 +5,7 @@
 --     strictly                           so every table, Unicode's and the Rust's, rises strictly, and its ranges never overlap
 --     no-cgj, no-cgj-rises               Grapheme_Extend without CGJ
 --     as-in-rust, as-in-rust-rises       Prepended_Concatenation_Mark without 890 and 891
---     high-TABLE                         the table has no character below 300, or below 600
+--     high-TABLE                         the table has no character below 300
 use mathlib.Core.Path.{_≡_, refl}
 use mathlib.Core.Bool.{true}
 use mathlib.Core.List.{List}
@@ -66,18 +66,9 @@ pub high-spacing : rises 0x300 (firstsOf spacingMark) (lastsOf spacingMark) ≡ 
 unfolding rises
 high-spacing = refl
 
--- nor has one that an end is tested by a character below 600
-pub high-repha : rises 0x600 (firstsOf consonantPrecedingRepha) (lastsOf consonantPrecedingRepha) ≡ true
+pub prepended-rises : rises 0 (firstsOf prependedConcatenationMark) (lastsOf prependedConcatenationMark) ≡ true
 unfolding rises
-high-repha = refl
-
-pub high-prefixed : rises 0x600 (firstsOf consonantPrefixed) (lastsOf consonantPrefixed) ≡ true
-unfolding rises
-high-prefixed = refl
-
-pub high-prepended : rises 0x600 (firstsOf prependedConcatenationMark) (lastsOf prependedConcatenationMark) ≡ true
-unfolding rises
-high-prepended = refl
+prepended-rises = refl
 
 pub strictly :
     RisesStrictly (firstsOf no-cgj) (lastsOf no-cgj)
@@ -99,6 +90,6 @@ strictly = (
   strictly-rising 0 _ _ consonant-preceding-repha-rises,
   strictly-rising 0 _ _ consonant-prefixed-rises,
   strictly-rising 0 _ _ as-in-rust-rises,
-  strictly-rising 0x600 _ _ high-prepended,
+  strictly-rising 0 _ _ prepended-rises,
   strictly-rising 0 _ _ private-use-rises,
 )

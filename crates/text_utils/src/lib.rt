@@ -10,6 +10,7 @@ use unicode::ZWJ;
 use unicode::is_char;
 ghost use mathlib.Core.Path.{_≡_};
 ghost use mathlib.Core.Bool.{true, not, _&&_};
+ghost use lib.Dec.{eqb};
 ghost use Rattle.page.specs.Page.{accepted};
 ghost use Rattle.text_utils.specs.Tables.{emojiModifier, spacingMark, spacingMarkExceptions, consonantPrecedingRepha, consonantPrefixed, prependedConcatenationMark};
 ghost use Rattle.text_utils.specs.Classes.{listed, starter, graphemeExtendNotCgj, spacingMarkPlus, basicTextStart, lackedByRust, basicTextEnd, isPrivateUse, classNumbers, startClass, endClass};
@@ -133,12 +134,27 @@ fn is_end_by_tables(c: u32) -> bool
         & !prepended_concatenation_mark(c)
 }
 
-// Whether c may end a text. No table has a character below 600, so these are ends. Total: any number.
+// Whether c lies in one of three spans from 8E3 on where no table of the ends has a character: most characters do.
+fn is_apart_from_end_tables(c: u32) -> bool
+    ensures { λ r. ⌜ (r ≡ true → basicTextEnd c ≡ not (eqb c 0x200d)) ⌝ }
+{
+    (0x8e3 <= c) & (c <= 0xd4d) | (0xd4f <= c) & (c <= 0x110bc) | (0x11f03 <= c)
+}
+
+// Whether c may end a text. Below 600 no table has a character, nor in the spans of 8E3 on, where only ZWJ is no end: for these no
+// table is copied to the stack. The tables are asked from two places, so that what is before them is compiled into each caller without
+// them. Total: any number.
 pub fn is_basic_text_end(c: u32) -> bool
     ensures { λ r. ⌜ r ≡ basicTextEnd c ⌝ }
 {
     if c < 0x600 {
         return true;
+    }
+    if c < 0x8e3 {
+        return is_end_by_tables(c);
+    }
+    if is_apart_from_end_tables(c) {
+        return c != ZWJ;
     }
     is_end_by_tables(c)
 }
