@@ -1,4 +1,5 @@
 -- The laws of this crate, in the order in which they lean on each other.
+pub mod Stretch
 pub mod Run
 pub mod Laws
 pub mod Means

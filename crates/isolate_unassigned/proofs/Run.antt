@@ -2,77 +2,78 @@
 -- on, leads to the same end as the whole run stored from the first place on. Assumes nothing.
 --     Going                     what holds at the head of the loop
 --     begin                     at the start, where there is room for the whole
---     fits-one, fits-two        there is room for what a step gives
---     again-one, again-two      after a turn, by what the step answers
+--     left                      there is room for what is left
+--     again                     after a stretch of the run
 --     fits-last                 there is room for the 34F that is owed
 --     ended, ended-owed         after the last character the whole is stored, once the 34F that is owed is
 use Prim.Native.Nat.{ℕ, suc, _+_, _≤_, _<_}
-use mathlib.Core.Path.{_≡_, refl, _∙_}
+use mathlib.Core.Path.{_≡_, refl, sym, ap, _∙_}
 use mathlib.Core.Bool.{true, false}
-use mathlib.Core.List.{List, [], _∷_}
+use mathlib.Core.List.{List, [], _∷_, _++_}
 use native.Mathlib.Nat.{zero-add}
-use native.Mathlib.Numerals.{add-one}
 use native.Mathlib.Omega.{arith}
-use lib.ListN.{length, getD, drop, set, length-set}
-use lib.Seq.{sets, sets-eq, drop-cons, drop-length}
+use lib.ListN.{length, getD, drop, set, length-set, length-append}
+use lib.Seq.{sets, sets-eq, length-sets, drop-length}
 use Rattle.isolate_unassigned.specs.declared.IsolateUnassigned.{IsolateUnassigned}
-use Rattle.isolate_unassigned.specs.declared.Isolated.the-variants.{One, Two}
+use Rattle.isolate_unassigned.specs.declared.Moved.{Moved}
 use Rattle.unicode.specs.Chars.{filled}
-use Rattle.isolate_unassigned.specs.Isolate.{fresh, isolateStepOf, isolatedFrom, isolateOf}
+use Rattle.unicode.proofs.Lists.{sets-append}
+use Rattle.ranges.specs.declared.Range.{Range}
+use Rattle.page.specs.Inner.{Assigned}
+use Rattle.stretch.specs.Stretch.{part}
+use Rattle.stretch.proofs.Parts.{cut}
+use Rattle.isolate_unassigned.specs.Isolate.{fresh, isolatedFrom, isolateOf}
+use Rattle.isolate_unassigned.specs.Inner.{gives, Moves}
+use Rattle.isolate_unassigned.proofs.Stretch.{isolated-append}
 
 module _ (p cs out₀ : List ℕ) where
-  pub record Going (out : List ℕ) (r : IsolateUnassigned) (k i : ℕ) : Type 0 where
+  pub record Going (out : List ℕ) (r : IsolateUnassigned) (near : Range) (k i : ℕ) : Type 0 where
     pub low : i ≤ length cs
     pub same : length out ≡ length out₀
     pub room : length (isolateOf p cs) ≤ length out₀
     pub count : k + length (isolatedFrom p r (drop i cs)) ≡ length (isolateOf p cs)
     pub places : sets out k (isolatedFrom p r (drop i cs)) ≡ filled (isolateOf p cs) out₀
+    pub close : Assigned p near
 
-  pub begin : length (isolateOf p cs) ≤ length out₀ → Going out₀ fresh 0 0
+  pub begin : (near : Range) → Assigned p near → length (isolateOf p cs) ≤ length out₀ → Going out₀ fresh near 0 0
   unfolding isolateOf
-  begin h =
+  begin near a h =
       record {
         low = omega arith;
         same = refl;
         room = h;
         count = rw zero-add;
         places = rw zero-add at (sets-eq (isolateOf p cs) out₀ 0 (rw zero-add h));
+        close = a;
       }
 
-  module _ (out : List ℕ) (r : IsolateUnassigned) (k i : ℕ) (g : Going out r k i) where
-    module _ (c : ℕ) (next : IsolateUnassigned) (more : i < length cs) (e : isolateStepOf p r (getD cs i 0) ≡ One c next) where
-      left-one : isolatedFrom p r (drop i cs) ≡ c ∷ isolatedFrom p next (drop (i + 1) cs)
-      left-one = rw (add-one, drop-cons cs i 0, e)
+  module _ (out : List ℕ) (r : IsolateUnassigned) (near : Range) (k i : ℕ) (g : Going out r near k i) where
+    pub left : k + length (isolatedFrom p r (drop i cs)) ≤ length out
+    left = omega (arith, g .count, g .same, g .room)
 
-      pub fits-one : k < length out
-      fits-one = omega (arith, g .same, g .room, simp left-one at (g .count))
+    module _ (m : Moved) (after : List ℕ) (v : Moves p r cs i out k m after) where
+      abbrev here : List ℕ
+      here = gives p r (part i (m .at) cs)
 
-      pub again-one : Going (set out k c) next (k + 1) (i + 1)
-      again-one =
+      abbrev rest : List ℕ
+      rest = drop (m .at) cs
+
+      both : isolatedFrom p r (drop i cs) ≡ here ++ isolatedFrom p (m .next) rest
+      both =
+          ap (isolatedFrom p r) (cut cs i (m .at) (omega (arith, v .on))) ∙ isolated-append p (part i (m .at) cs) rest r ∙ rw (v .next)
+
+      size : length (isolatedFrom p r (drop i cs)) ≡ length here + length (isolatedFrom p (m .next) rest)
+      size = ap length both ∙ length-append here (isolatedFrom p (m .next) rest)
+
+      pub again : Going after (m .next) (m .near) (m .written) (m .at)
+      again =
           record {
-            low = omega arith;
-            same = length-set out k c ∙ g .same;
+            low = v .under;
+            same = ap length (v .places) ∙ length-sets out k here ∙ g .same;
             room = g .room;
-            count = omega (arith, simp left-one at (g .count));
-            places = rw (add-one k) (rw left-one at (g .places));
-          }
-
-    module _ (j c : ℕ) (next : IsolateUnassigned) (more : i < length cs) (e : isolateStepOf p r (getD cs i 0) ≡ Two j c next) where
-      left-two : isolatedFrom p r (drop i cs) ≡ j ∷ c ∷ isolatedFrom p next (drop (i + 1) cs)
-      left-two = rw (add-one, drop-cons cs i 0, e)
-
-      pub fits-two : k + 1 < length out
-      fits-two = omega (arith, g .same, g .room, simp left-two at (g .count))
-
-      pub again-two : Going (set (set out k j) (k + 1) c) next (k + 2) (i + 1)
-      again-two =
-          let n : k + 2 ≡ suc (suc k) = omega arith in
-          record {
-            low = omega arith;
-            same = simp length-set (g .same);
-            room = g .room;
-            count = omega (arith, simp left-two at (g .count));
-            places = rw (add-one k, n) (rw left-two at (g .places));
+            count = omega (arith, size, v .written, g .count);
+            places = rw (v .places, v .written) (sym (sets-append here (isolatedFrom p (m .next) rest) out k) ∙ rw both at (g .places));
+            close = v .near;
           }
 
     module _ (past : length cs ≤ i) where

@@ -1,18 +1,28 @@
 // Isolation of unassigned characters: ports `internals/src/isolate_unassigned.rs`.
 // The iterator becomes a record by value whose step answers all that it gives out for one character, so `deferred` is gone; what
 // the iterator gives after the last character is `finish`.
+use page::assigned_range;
 use page::is_accepted;
 use page::is_assigned;
+use ranges::Range;
+use stretch::either;
+use stretch::either_end;
+use stretch::is_sought;
+use stretch::put_run;
 use text_utils::is_private_use_area;
 use unicode::CGJ;
 use unicode::are_chars;
 ghost use mathlib.Core.Path.{_≡_};
 ghost use mathlib.Core.Bool.{true};
-ghost use Prim.Native.Nat.{_≤_};
-ghost use lib.ListN.{length};
+ghost use mathlib.Core.List.{List};
+ghost use Prim.Native.Nat.{ℕ, _+_, _≤_, _<_};
+ghost use lib.ListN.{length, drop};
+ghost use lib.Seq.{sets};
 ghost use Rattle.unicode.specs.Chars.{filled};
 ghost use Rattle.page.specs.Page.{accepted};
-ghost use Rattle.isolate_unassigned.specs.Isolate.{toIsolate, fresh, isolateStepOf, placesForRun, isolateOf, writtenNumbers, isolateAnswer, isolatePlaces};
+ghost use Rattle.page.specs.Inner.{Assigned};
+ghost use Rattle.isolate_unassigned.specs.Isolate.{toIsolate, fresh, isolateStepOf, givesOut, after, isolatedFrom, placesForRun, isolateOf, writtenNumbers, isolateAnswer, isolatePlaces};
+ghost use Rattle.isolate_unassigned.specs.Inner.{Nearer, Keeps, Moves};
 
 // Puts 34F around unassigned characters.
 pub struct IsolateUnassigned {
@@ -47,12 +57,10 @@ impl IsolateUnassigned {
         }
     }
 
-    // One character of the run, `next` of the Rust with a character. Inner: asks for an accepted page.
-    pub fn step(self, page: &[u32], c: u32) -> Isolated
-        requires { ⌜ accepted (now page) ≡ true ⌝ }
-        ensures { λ r. ⌜ r ≡ isolateStepOf (now (page .entry)) self c ⌝ }
+    // One character, `next` of the Rust with a character, where it is known whether it is to be isolated. Total.
+    fn step_by(self, unassigned: bool, c: u32) -> Isolated
+        ensures { λ r. ⌜ ((p : List ℕ) → unassigned ≡ toIsolate p c → r ≡ isolateStepOf p self c) ⌝ }
     {
-        let unassigned = is_unassigned(page, c);
         let have_cgj = c == CGJ;
         if self.need_cgj & !have_cgj | unassigned & !self.have_cgj {
             Isolated::Two(
@@ -72,6 +80,14 @@ impl IsolateUnassigned {
                 },
             )
         }
+    }
+
+    // One character of the run. Inner: asks for an accepted page.
+    pub fn step(self, page: &[u32], c: u32) -> Isolated
+        requires { ⌜ accepted (now page) ≡ true ⌝ }
+        ensures { λ r. ⌜ r ≡ isolateStepOf (now (page .entry)) self c ⌝ }
+    {
+        self.step_by(is_unassigned(page, c), c)
     }
 
     // Whether one more 34F ends the run, `next` of the Rust with no character. Total.
@@ -98,6 +114,124 @@ fn places_for(chars: &[u32]) -> usize
     2 * chars.len() + 1
 }
 
+// How far the places are written, and the record.
+struct Turned {
+    written: usize,
+    next: IsolateUnassigned,
+}
+
+// Stores what a step gives out from place k on. Inner: asks for room.
+fn put_step(step: Isolated, out: &mut [u32], k: usize) -> Turned
+    requires { ⌜ k + length (givesOut step) ≤ length (now out) ⌝ }
+    ensures { λ r. ⌜ r .written ≡ k + length (givesOut step) ⌝ }
+    ensures { λ r. ⌜ r .next ≡ after step ⌝ }
+    ensures { λ r. ⌜ now (out .exit) ≡ sets (now (out .entry)) k (givesOut step) ⌝ }
+{
+    match step {
+        Isolated::One(c, next) => {
+            out[k] = c;
+            Turned {
+                written: k + 1,
+                next,
+            }
+        }
+        Isolated::Two(cgj, c, next) => {
+            out[k] = cgj;
+            out[k + 1] = c;
+            Turned {
+                written: k + 2,
+                next,
+            }
+        }
+    }
+}
+
+// The range to look in beside the base: this one where it or the base has c, and else the one that a search for c finds. Inner: asks
+// for an accepted page, and for ranges of assigned characters.
+fn nearer(page: &[u32], base: Range, near: Range, c: u32) -> Range
+    requires page { ⌜ accepted (now page) ≡ true ⌝ }
+    requires base { ⌜ Assigned (now page) base ⌝ }
+    requires near { ⌜ Assigned (now page) near ⌝ }
+    ensures { λ r. ⌜ Nearer (now (page .entry)) base c r ⌝ }
+{
+    if is_sought(either(base, near), c) {
+        return near;
+    }
+    assigned_range(page, c)
+}
+
+// How far a run is taken and the places are written, the record, and the range to look in next.
+struct Moved {
+    at: usize,
+    written: usize,
+    next: IsolateUnassigned,
+    near: Range,
+}
+
+impl IsolateUnassigned {
+    // A place of the run up to which all from place i on are in one of two ranges, where nothing is owed; i itself where something is.
+    // Inner: asks for a place of the run.
+    fn kept_end(self, chars: &[u32], i: usize, base: Range, near: Range) -> usize
+        requires { ⌜ i ≤ length (now chars) ⌝ }
+        ensures { λ r. ⌜ Keeps self (now (chars .entry)) base near i r ⌝ }
+    {
+        if self.need_cgj {
+            return i;
+        }
+        either_end(chars, i, base, near)
+    }
+
+    // One character or more of the run from place i on, and what is given out for them stored from place k on: a stretch that is
+    // copied, or one step. Inner: asks for an accepted page, for a character at i, for ranges of assigned characters, and for room for
+    // all that is left.
+    fn advance(
+        self,
+        page: &[u32],
+        chars: &[u32],
+        i: usize,
+        base: Range,
+        near: Range,
+        out: &mut [u32],
+        k: usize,
+    ) -> Moved
+        requires page { ⌜ accepted (now page) ≡ true ⌝ }
+        requires more { ⌜ i < length (now chars) ⌝ }
+        requires base { ⌜ Assigned (now page) base ⌝ }
+        requires near { ⌜ Assigned (now page) near ⌝ }
+        requires room { ⌜ k + length (isolatedFrom (now page) self (drop i (now chars))) ≤ length (now out) ⌝ }
+        ensures { λ r. ⌜ Moves (now (page .entry)) self (now (chars .entry)) i (now (out .entry)) k r (now (out .exit)) ⌝ }
+    {
+        let c = chars[i];
+        let close = nearer(page, base, near, c);
+        let end = self.kept_end(chars, i, base, close);
+        if i < end {
+            put_run(&chars[i..end], out, k);
+            let last = chars[end - 1];
+            let next = IsolateUnassigned {
+                need_cgj: false,
+                have_cgj: last == CGJ,
+            };
+            Moved {
+                at: end,
+                written: k + (end - i),
+                next,
+                near: close,
+            }
+        } else {
+            let unassigned = !(is_sought(either(base, close), c) | is_private_use_area(c));
+            let step = self.step_by(unassigned, c);
+            let turned = put_step(step, out, k);
+            let next = turned.next;
+            Moved {
+                at: i + 1,
+                written: turned.written,
+                next,
+                near: close,
+            }
+        }
+    }
+}
+
 // Isolates a run into the first places of out, and answers how many. Inner: asks for an accepted page and for room.
 // What is left of the run, from the record r on, goes to the places from k on.
 pub fn isolate_run(page: &[u32], chars: &[u32], out: &mut [u32]) -> usize
@@ -106,25 +240,17 @@ pub fn isolate_run(page: &[u32], chars: &[u32], out: &mut [u32]) -> usize
     ensures { λ r. ⌜ r ≡ length (isolateOf (now (page .entry)) (now (chars .entry))) ⌝ }
     ensures { λ r. ⌜ now (out .exit) ≡ filled (isolateOf (now (page .entry)) (now (chars .entry))) (now (out .entry)) ⌝ }
 {
+    let base = assigned_range(page, 0xa);
+    let mut near = base;
     let mut r = IsolateUnassigned::new();
     let mut k = 0;
     let mut i = 0;
     while i < chars.len() {
-        let step = r.step(page, chars[i]);
-        i += 1;
-        match step {
-            Isolated::One(c, next) => {
-                out[k] = c;
-                k += 1;
-                r = next;
-            }
-            Isolated::Two(cgj, c, next) => {
-                out[k] = cgj;
-                out[k + 1] = c;
-                k += 2;
-                r = next;
-            }
-        }
+        let moved = r.advance(page, chars, i, base, near, out, k);
+        i = moved.at;
+        k = moved.written;
+        r = moved.next;
+        near = moved.near;
     }
     if r.finish() {
         out[k] = CGJ;

@@ -14,5 +14,6 @@ pub mod Clean
 pub mod Pins
 pub mod Cases
 pub mod Kit
+pub mod Stretch
 pub mod Loop
 pub mod Calls

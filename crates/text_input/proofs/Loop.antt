@@ -2,38 +2,50 @@
 -- same end as the whole chunk stored from the first place on. Assumes nothing.
 --     Going     what holds at the head of the loop
 --     begin     at the start, where there is room for the whole
---     fits      there is room for what a step appends
---     again     after a turn
+--     left      there is room for what is left
+--     again     after a stretch of the chunk
 --     ended     after the last character
 use mathlib.Core.Path.{_≡_, refl, sym, ap, _∙_}
 use mathlib.Core.List.{List, [], _∷_, _++_}
 use Prim.Native.Nat.{ℕ, suc, _+_, _≤_, _<_}
 use native.Mathlib.Nat.{zero-add}
-use native.Mathlib.Numerals.{add-one}
 use native.Mathlib.Omega.{arith}
 use lib.ListN.{length, getD, drop, length-append}
-use lib.Seq.{sets, drop-cons, length-sets, drop-length}
+use lib.Seq.{sets, length-sets, drop-length}
 use Rattle.unicode.specs.Chars.{filled}
+use Rattle.ranges.specs.declared.Range.{Range}
+use Rattle.stretch.specs.Stretch.{part}
+use Rattle.stretch.specs.Plain.{Gap}
+use Rattle.stretch.proofs.Parts.{cut}
 use Rattle.text_input.specs.declared.Options.{Options}
 use Rattle.text_input.specs.declared.TextInput.{TextInput}
-use Rattle.text_input.specs.declared.step.Step.{Step}
-use Rattle.text_input.specs.Step.{scanStepOf, outChars}
+use Rattle.text_input.specs.declared.Moved.{Moved}
 use Rattle.text_input.specs.Scan.{outs, ends}
+use Rattle.text_input.specs.Inner.{Moves}
 use Rattle.unicode.proofs.Lists.{sets-append, sets-filled}
+use Rattle.text_input.proofs.Chunks.{outs-append, ends-append}
 
 module _ (p : List ℕ) (o : Options) (chunk queue₀ : List ℕ) (r₀ : TextInput) where
-  pub record Going (queue : List ℕ) (r : TextInput) (k i : ℕ) : Type 0 where
+  pub record Going (queue : List ℕ) (r : TextInput) (gap : Range) (k i : ℕ) : Type 0 where
     pub low : i ≤ length chunk
     pub same : length queue ≡ length queue₀
     pub count : k + length (outs p o r (drop i chunk)) ≡ length (outs p o r₀ chunk)
     pub next : ends p o r (drop i chunk) ≡ ends p o r₀ chunk
     pub stored : sets queue k (outs p o r (drop i chunk)) ≡ filled (outs p o r₀ chunk) queue₀
+    pub plain : Gap gap
 
-  pub begin : length (outs p o r₀ chunk) ≤ length queue₀ → Going queue₀ r₀ 0 0
-  begin room =
-      record { low = omega arith; same = refl; count = rw zero-add; next = refl; stored = sets-filled (outs p o r₀ chunk) queue₀ room }
+  pub begin : (gap : Range) → Gap gap → length (outs p o r₀ chunk) ≤ length queue₀ → Going queue₀ r₀ gap 0 0
+  begin gap ps room =
+      record {
+        low = omega arith;
+        same = refl;
+        count = rw zero-add;
+        next = refl;
+        stored = sets-filled (outs p o r₀ chunk) queue₀ room;
+        plain = ps;
+      }
 
-  module _ (queue : List ℕ) (r : TextInput) (k i : ℕ) (g : Going queue r k i) where
+  module _ (queue : List ℕ) (r : TextInput) (gap : Range) (k i : ℕ) (g : Going queue r gap k i) where
     pub ended : length chunk ≤ i → (k ≡ length (outs p o r₀ chunk)) × ((r ≡ ends p o r₀ chunk) × (queue ≡ filled (outs p o r₀ chunk) queue₀))
     ended past =
         let e : i ≡ length chunk = omega (arith, g .low) in
@@ -42,25 +54,32 @@ module _ (p : List ℕ) (o : Options) (chunk queue₀ : List ℕ) (r₀ : TextIn
           (simp n at (g .next), simp n at (g .stored)),
         )
 
-    module _ (more : i < length chunk) where
-      abbrev now : Step
-      now = scanStepOf p o r (getD chunk i 0)
+    pub left : length (outs p o r₀ chunk) ≤ length queue₀ → k + length (outs p o r (drop i chunk)) ≤ length queue
+    left room = omega (arith, g .count, g .same)
 
-      left : outs p o r (drop i chunk) ≡ outChars now ++ outs p o (now .next) (drop (i + 1) chunk)
-      left = rw (add-one, drop-cons chunk i 0)
+    module _ (m : Moved) (after : List ℕ) (v : Moves p o r chunk i queue k m after) where
+      abbrev here : List ℕ
+      here = outs p o r (part i (m .at) chunk)
 
-      size : length (outs p o r (drop i chunk)) ≡ length (outChars now) + length (outs p o (now .next) (drop (i + 1) chunk))
-      size = ap length left ∙ length-append (outChars now) (outs p o (now .next) (drop (i + 1) chunk))
+      abbrev rest : List ℕ
+      rest = drop (m .at) chunk
 
-      pub fits : length (outs p o r₀ chunk) ≤ length queue₀ → k + length (outChars now) ≤ length queue
-      fits room = omega (arith, size)
+      split : drop i chunk ≡ part i (m .at) chunk ++ rest
+      split = cut chunk i (m .at) (omega (arith, v .on))
 
-      pub again : Going (sets queue k (outChars now)) (now .next) (k + length (outChars now)) (i + 1)
+      both : outs p o r (drop i chunk) ≡ here ++ outs p o (m .next) rest
+      both = ap (outs p o r) split ∙ outs-append p o r (part i (m .at) chunk) rest ∙ rw (v .next)
+
+      size : length (outs p o r (drop i chunk)) ≡ length here + length (outs p o (m .next) rest)
+      size = ap length both ∙ length-append here (outs p o (m .next) rest)
+
+      pub again : Going after (m .next) (m .gap) (m .written) (m .at)
       again =
           record {
-            low = omega arith;
-            same = length-sets queue k (outChars now) ∙ g .same;
-            count = omega (arith, size);
-            next = rw add-one (rw (drop-cons chunk i 0) at (g .next));
-            stored = sym (sets-append (outChars now) (outs p o (now .next) (drop (i + 1) chunk)) queue k) ∙ rw left at (g .stored);
+            low = v .low;
+            same = ap length (v .places) ∙ length-sets queue k here ∙ g .same;
+            count = omega (arith, size, v .written, g .count);
+            next = rw (v .next) (sym (ends-append p o r (part i (m .at) chunk) rest) ∙ rw split at (g .next));
+            stored = rw (v .places, v .written) (sym (sets-append here (outs p o (m .next) rest) queue k) ∙ rw both at (g .stored));
+            plain = v .gap;
           }

@@ -2,7 +2,6 @@
 -- guard of a start that is expected, is at most one character; a step, with what it leaves owed, costs at most three and what was
 -- owed before it. Assumes nothing.
 --     given-pending  what a step gives before the ground state takes its character is what was pending
---     step-room      a step appends at most 4 characters
 --     room           a run of n characters appends at most 3 × n + 1
 --     run-room       .. and so at most the places for n characters: none for an empty run
 --     part-room      .. and so does the run without its first characters
@@ -130,10 +129,6 @@ module _ (p : List ℕ) (o : Options) (r : TextInput) where
 
 out-length : (s : Step) → length (outChars s) ≡ length (leadChars (s .lead)) + length (imageChars (s .image))
 out-length s = length-append (leadChars (s .lead)) (imageChars (s .image))
-
-pub step-room : (p : List ℕ) (o : Options) (r : TextInput) (c : ℕ) → length (outChars (scanStepOf p o r c)) ≤ 4
-step-room p o r c =
-    omega (arith, out-length (scanStepOf p o r c), step-cost p o r c, owes-one (r .state) (r .«expect_starter»))
 
 -- ---- a run
 run-cost : (p : List ℕ) (o : Options) (r : TextInput) (cs : List ℕ) → length (outs p o r cs) ≤ 3 * length cs + owed r

@@ -7,3 +7,4 @@ pub mod Scan
 pub mod Pieces
 pub mod Streams
 pub mod Cases
+pub mod Inner

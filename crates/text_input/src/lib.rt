@@ -10,8 +10,13 @@ use isolate_unassigned::Answer;
 use page::is_accepted;
 use queue::put;
 use queue::put_three;
+use ranges::Range;
 use step::Lead;
 use step::last_lead;
+use stretch::first_gap;
+use stretch::next_gap;
+use stretch::plain_end;
+use stretch::put_run;
 use text_utils::is_basic_text_end;
 use unicode::BOM;
 use unicode::CGJ;
@@ -20,12 +25,14 @@ ghost use mathlib.Core.Path.{_≡_};
 ghost use mathlib.Core.Bool.{true};
 ghost use Prim.Native.Nat.{_+_, _≤_, _<_};
 ghost use lib.Dec.{leb};
-ghost use lib.ListN.{length};
+ghost use lib.ListN.{length, drop};
 ghost use lib.Seq.{sets};
 ghost use Rattle.unicode.specs.Chars.{filled};
 ghost use Rattle.page.specs.Page.{accepted};
+ghost use Rattle.stretch.specs.Plain.{Gap};
 ghost use Rattle.text_input.specs.Step.{scanStepOf, outChars};
 ghost use Rattle.text_input.specs.Scan.{fresh, outs, ends, placesForChunk, refusalOf, skipped, opened, outcome, scanOf, pendingOf, afterLine, endMarkOf, newlineOf, finishOf};
+ghost use Rattle.text_input.specs.Inner.{grounded, steady, passedBy, Keeps, Moves};
 
 // What the characters so far leave open. `Ground`: nothing; its flag is true after a newline, and before the first character.
 pub enum State {
@@ -71,6 +78,14 @@ pub struct Scanned {
     pub next: TextInput,
 }
 
+// How far a chunk is taken and the queue is written, the record, and the gap of plain characters to look in next.
+struct Moved {
+    at: usize,
+    written: usize,
+    next: TextInput,
+    gap: Range,
+}
+
 // How far the queue is written, and the record.
 pub struct Ran {
     pub written: usize,
@@ -95,7 +110,7 @@ impl TextInput {
     }
 
     // One character, and its output stored from a place on. Inner: asks for an accepted page and for room.
-    pub fn turn(self, page: &[u32], options: Options, c: u32, queue: &mut [u32], at: usize) -> Ran
+    fn turn(self, page: &[u32], options: Options, c: u32, queue: &mut [u32], at: usize) -> Ran
         requires { ⌜ accepted (now page) ≡ true ⌝ }
         requires { ⌜ at + length (outChars (scanStepOf (now page) options self c)) ≤ length (now queue) ⌝ }
         ensures written { λ r. ⌜ r .written ≡ at + length (outChars (scanStepOf (now (page .entry)) options self c)) ⌝ }
@@ -108,9 +123,85 @@ impl TextInput {
         Ran { written, next }
     }
 
+    // Whether plain characters are appended as they come: nothing is pending, and no start is expected.
+    fn is_steady(self) -> bool
+        ensures { λ r. ⌜ r ≡ steady self ⌝ }
+    {
+        let state = self.state;
+        is_ground(state) & !self.expect_starter
+    }
+
+    // The record after characters that were appended as they came, by the last of them.
+    fn passed(self, c: u32) -> Self
+        ensures { λ r. ⌜ r ≡ passedBy self c ⌝ }
+    {
+        Self {
+            state: State::Ground(c == 0xa),
+            expect_starter: false,
+            at_start: self.at_start,
+            last: c,
+            count: self.count,
+        }
+    }
+
+    // A place of the chunk up to which all from place i on are appended as they come; i itself where none is known to be. Inner: asks
+    // for a place of the chunk and for a gap.
+    fn kept_end(self, chunk: &[u32], i: usize, gap: Range) -> usize
+        requires { ⌜ i ≤ length (now chunk) ⌝ }
+        requires { ⌜ Gap gap ⌝ }
+        ensures { λ r. ⌜ Keeps self (now (chunk .entry)) i r ⌝ }
+    {
+        if self.is_steady() {
+            return plain_end(chunk, i, gap);
+        }
+        i
+    }
+
+    // One character or more of the chunk from place i on, and their output stored from place k on: a stretch that is copied, or one
+    // step. Inner: asks for an accepted page, for a character at i, for a gap, and for room for all that is left.
+    fn advance(
+        self,
+        page: &[u32],
+        options: Options,
+        chunk: &[u32],
+        i: usize,
+        gap: Range,
+        queue: &mut [u32],
+        k: usize,
+    ) -> Moved
+        requires page { ⌜ accepted (now page) ≡ true ⌝ }
+        requires more { ⌜ i < length (now chunk) ⌝ }
+        requires gap { ⌜ Gap gap ⌝ }
+        requires room { ⌜ k + length (outs (now page) options self (drop i (now chunk))) ≤ length (now queue) ⌝ }
+        ensures { λ r. ⌜ Moves (now (page .entry)) options self (now (chunk .entry)) i (now (queue .entry)) k r (now (queue .exit)) ⌝ }
+    {
+        let end = self.kept_end(chunk, i, gap);
+        if i < end {
+            put_run(&chunk[i..end], queue, k);
+            let next = self.passed(chunk[end - 1]);
+            Moved {
+                at: end,
+                written: k + (end - i),
+                next,
+                gap,
+            }
+        } else {
+            let c = chunk[i];
+            let turned = self.turn(page, options, c, queue, k);
+            let next = turned.next;
+            let near = next_gap(gap, c);
+            Moved {
+                at: i + 1,
+                written: turned.written,
+                next,
+                gap: near,
+            }
+        }
+    }
+
     // A run of characters, stored from the first place on. Inner: asks for an accepted page and for room. What is left of the run,
     // from the record r on, goes to the places from k on.
-    fn run(self, page: &[u32], options: Options, chunk: &[u32], queue: &mut [u32]) -> Ran
+    pub fn run(self, page: &[u32], options: Options, chunk: &[u32], queue: &mut [u32]) -> Ran
         requires { ⌜ accepted (now page) ≡ true ⌝ }
         requires { ⌜ length (outs (now page) options self (now chunk)) ≤ length (now queue) ⌝ }
         ensures written { λ r. ⌜ r .written ≡ length (outs (now (page .entry)) options self (now (chunk .entry))) ⌝ }
@@ -118,13 +209,15 @@ impl TextInput {
         ensures places { λ r. ⌜ now (queue .exit) ≡ filled (outs (now (page .entry)) options self (now (chunk .entry))) (now (queue .entry)) ⌝ }
     {
         let mut r = self;
+        let mut gap = first_gap();
         let mut k = 0;
         let mut i = 0;
         while i < chunk.len() {
-            let turned = r.turn(page, options, chunk[i], queue, k);
-            k = turned.written;
-            r = turned.next;
-            i += 1;
+            let moved = r.advance(page, options, chunk, i, gap, queue, k);
+            i = moved.at;
+            k = moved.written;
+            r = moved.next;
+            gap = moved.gap;
         }
         Ran {
             written: k,
@@ -250,6 +343,22 @@ pub fn refusal(count: u32, page: bool, chars: bool, n: usize, room: usize) -> u3
         0
     } else {
         8
+    }
+}
+
+// Whether nothing is pending.
+fn is_ground(state: State) -> bool
+    ensures { λ r. ⌜ r ≡ grounded state ⌝ }
+{
+    match state {
+        State::Ground(_) => true,
+        State::Cr => false,
+        State::Ff => false,
+        State::Esc => false,
+        State::CsiStart => false,
+        State::Csi => false,
+        State::Osc => false,
+        State::Linux => false,
     }
 }
 

@@ -3,6 +3,7 @@
 use super::step::Step;
 use super::step::state_machine_char;
 use check_char::BasicTextError;
+use stretch::put_run;
 use text_output::Ground;
 use text_output::Mode;
 use text_output::State;
@@ -12,7 +13,6 @@ ghost use mathlib.Core.List.{[]};
 ghost use Prim.Native.Nat.{_+_, _≤_};
 ghost use lib.Dec.{eqb};
 ghost use lib.ListN.{length};
-ghost use lib.Seq.{sets};
 ghost use Rattle.text_output.specs.Writer.{sound};
 ghost use Rattle.text_output.specs.Step.{writeStepOf};
 ghost use Rattle.text_write.specs.Inner.{writerAt, pushed, stored, progress};
@@ -37,19 +37,6 @@ pub enum Stop {
 pub enum Pushed {
     On(Place),
     Stopped(Place, Stop),
-}
-
-// Stores characters from a place on. Inner: asks for room. What is left of them, stored from the place at hand on, leads to the same
-// end.
-fn put_run(run: &[u32], out: &mut [u32], at: usize)
-    requires { ⌜ at + length (now run) ≤ length (now out) ⌝ }
-    ensures { λ r. ⌜ now (out .exit) ≡ sets (now (out .entry)) at (now (run .entry)) ⌝ }
-{
-    let mut j = 0;
-    while j < run.len() {
-        out[at + j] = run[j];
-        j += 1;
-    }
 }
 
 // One character that is no 1A. Inner: asks for a sound record, for places for 64 held characters, and for room.

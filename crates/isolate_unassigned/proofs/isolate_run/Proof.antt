@@ -5,61 +5,52 @@ use mathlib.Core.Path.{sym, _∙_}
 use native.Mathlib.Omega.{arith}
 use borrow.Author.Needs.{needs}
 use lib.ListN.{length, length-set}
-use Rattle.isolate_unassigned.proofs.Run.{Going, begin, fits-one, fits-two, again-one, again-two, fits-last, ended, ended-owed}
+use Rattle.page.specs.Inner.{Assigned}
+use Rattle.isolate_unassigned.proofs.Run.{Going, begin, left, again, fits-last, ended, ended-owed}
 use Rattle.isolate_unassigned.proofs.isolate_run.Statement.{statement}
 use Rattle.isolate_unassigned.proofs.isolate_run.Tie as tie
 
 abbrev Inv-loop : tie.InvT-loop
-Inv-loop page chars out₀ r₀ k₀ i₀ out r k i = Going page chars out₀ out r k i
+Inv-loop page chars out₀ base near₀ r₀ k₀ i₀ out near r k i = Going page chars out₀ out r near k i × Assigned page base
 
 abbrev μ-loop : tie.MeasureT-loop
-μ-loop page chars out₀ r₀ k₀ i₀ out r k i = length chars - i
+μ-loop page chars out₀ base near₀ r₀ k₀ i₀ out near r k i = length chars - i
 
 loop-holds : tie.Need-loop-holds Inv-loop μ-loop
-loop-holds c = rw (c .new .ensures) (begin _ _ _ (c .before .before .before .before .pre .1))
+loop-holds c =
+    let s = c .before .assigned-range .ensures .members in
+    (rw (c .new .ensures) (begin _ _ _ _ s (c .before .before .before .before .before .pre .1)), s)
 
--- ---- the step gave one character
-slice-write-out : tie.Need-slice-write-out Inv-loop μ-loop
-slice-write-out c =
-    let d = c .before .before .before in
-    let t = d .before .before in
-    fits-one _ _ _ _ _ _ _ (t .before .loop .inv) _ _ (t .loop-test .taken) (sym (d .step .ensures) ∙ c .before .step2 .given .1)
+advance-requires : tie.Need-advance-requires Inv-loop μ-loop
+advance-requires c κs =
+    let a = c .before .before .before .before .before .before .before .before .pre in
+    let g = c .before .before .loop .inv in
+    (a .0, (c .before .loop-test .taken, (g .1, (g .0 .close, left _ _ _ _ _ _ _ _ (g .0)))))
+
+loop-less : tie.Need-loop-less Inv-loop μ-loop
+loop-less c =
+    let v = c .before .before .before .before .advance .ensures in
+    omega (arith, v .on, v .under)
 
 loop-again : tie.Need-loop-again Inv-loop μ-loop
 loop-again c =
-    let d = c .before .before .before in
-    let t = d .before .before in
-    again-one _ _ _ _ _ _ _ (t .before .loop .inv) _ _ (t .loop-test .taken) (sym (d .step .ensures) ∙ c .before .step2 .given .1)
+    let g = c .before .before .before .before .before .before .before .loop .inv in
+    (again _ _ _ _ _ _ _ _ (g .0) _ _ (c .before .before .before .before .advance .ensures), g .1)
 
--- ---- the step gave two
-
-slice-write-out-3 : tie.Need-slice-write-out-3 Inv-loop μ-loop
-slice-write-out-3 c =
-    let d = c .before .before .before in
-    let t = d .before .before in
-    simp length-set (fits-two _ _ _ _ _ _ _ (t .before .loop .inv) _ _ _ (t .loop-test .taken) (sym (d .step .ensures) ∙ c .before .step3 .given .1))
-
-loop-again-2 : tie.Need-loop-again-2 Inv-loop μ-loop
-loop-again-2 c =
-    let d = c .before .before .before in
-    let t = d .before .before in
-    again-two _ _ _ _ _ _ _ (t .before .loop .inv) _ _ _ (t .loop-test .taken) (sym (d .step .ensures) ∙ c .before .step3 .given .1)
-
--- ---- a 34F is owed at the end, or none
-slice-write-out-4 : tie.Need-slice-write-out-4 Inv-loop μ-loop
-slice-write-out-4 c =
+slice-write-out : tie.Need-slice-write-out Inv-loop μ-loop
+slice-write-out c =
     let e = c .before .before in
-    fits-last _ _ _ _ _ _ _ (e .before .loop .inv) (e .loop-test .left) (sym (c .before .finish .ensures) ∙ c .if1 .taken)
+    fits-last _ _ _ _ _ _ _ _ (e .before .loop .inv .0) (e .loop-test .left) (sym (c .before .finish .ensures) ∙ c .if1 .taken)
 
 returns : tie.Need-returns Inv-loop μ-loop
 returns c =
     let e = c .before .before in
-    ended-owed _ _ _ _ _ _ _ (e .before .loop .inv) (e .loop-test .left) (sym (c .before .finish .ensures) ∙ c .if1 .taken)
+    ended-owed _ _ _ _ _ _ _ _ (e .before .loop .inv .0) (e .loop-test .left) (sym (c .before .finish .ensures) ∙ c .if1 .taken)
 
 returns-2 : tie.Need-returns-2 Inv-loop μ-loop
 returns-2 c =
     let e = c .before .before in
-    ended _ _ _ _ _ _ _ (e .before .loop .inv) (e .loop-test .left) (sym (c .before .finish .ensures) ∙ c .if1 .left)
+    ended _ _ _ _ _ _ _ _ (e .before .loop .inv .0) (e .loop-test .left) (sym (c .before .finish .ensures) ∙ c .if1 .left)
 
 pub isolate-run-spec : {M : Type 1} → statement M
 isolate-run-spec =
@@ -68,31 +59,16 @@ isolate-run-spec =
     Inv-loop
     μ-loop
     (λ c κs. search needs)
-    loop-holds
-    (λ c. search needs)
-    (λ c. search needs)
     (λ c κs. search needs)
-    (λ c. search needs)
-    (λ c. c .match .keys1)
+    loop-holds
+    advance-requires
+    loop-less
+    loop-again
+    (λ c κs. search needs)
     (λ c. omega (arith, slice-write-out c))
     slice-write-out
     (λ c. omega (arith, slice-write-out c))
-    (λ c. search needs)
-    loop-again
-    (λ c. c .match .keys2)
-    (λ c. omega (arith, simp length-set at (slice-write-out-3 c)))
-    (λ c. omega (arith, simp length-set at (slice-write-out-3 c)))
-    (λ c. omega (arith, simp length-set at (slice-write-out-3 c)))
-    (λ c. omega (arith, simp length-set at (slice-write-out-3 c)))
-    slice-write-out-3
-    (λ c. omega (arith, simp length-set at (slice-write-out-3 c)))
-    (λ c. search needs)
-    loop-again-2
-    (λ c κs. search needs)
-    (λ c. omega (arith, slice-write-out-4 c))
-    slice-write-out-4
-    (λ c. omega (arith, slice-write-out-4 c))
-    (λ c. simp length-set (c .before .before .before .loop .inv .same))
+    (λ c. simp length-set (c .before .before .before .loop .inv .0 .same))
     returns
-    (λ c. c .before .before .before .loop .inv .same)
+    (λ c. c .before .before .before .loop .inv .0 .same)
     returns-2)

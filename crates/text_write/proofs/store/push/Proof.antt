@@ -10,7 +10,7 @@ use Rattle.text_write.specs.Inner.{writerAt}
 use Rattle.text_write.proofs.Asked.{takes}
 use Rattle.text_write.proofs.Stores.{does, takes-low, out-room, whole-room, whole-stored, whole-length}
 use Rattle.text_write.proofs.step.state_machine_char.Reads as step-reads
-use Rattle.text_write.proofs.store.put_run.Reads as put-reads
+use Rattle.stretch.proofs.put_run.Reads as put-reads
 use Rattle.text_write.proofs.store.push.Statement.{statement}
 use Rattle.text_write.proofs.store.push.Tie as tie
 use Rattle.text_write.proofs.store.push.Reads as reads

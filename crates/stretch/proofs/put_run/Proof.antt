@@ -9,8 +9,8 @@ use native.Mathlib.Omega.{arith}
 use lib.ListN.{length, getD, drop, set, length-set}
 use lib.Seq.{sets, drop-cons, drop-length}
 use borrow.Author.Needs.{needs}
-use Rattle.text_write.proofs.store.put_run.Statement.{statement}
-use Rattle.text_write.proofs.store.put_run.Tie as tie
+use Rattle.stretch.proofs.put_run.Statement.{statement}
+use Rattle.stretch.proofs.put_run.Tie as tie
 
 record Going (run out₀ : List ℕ) (at : ℕ) (out : List ℕ) (j : ℕ) : Type 0 where
   low : j ≤ length run

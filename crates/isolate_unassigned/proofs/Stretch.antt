@@ -1,0 +1,139 @@
+-- A stretch of assigned characters where nothing is owed: each is given out as it is, and only the last one sets the record.
+-- Assumes nothing.
+--     either-assigned              what is in one of two ranges of assigned characters is assigned
+--     known                        whether a character is to be isolated, by the ranges at hand
+--     keep-step                    one assigned character, where nothing is owed
+--     keeps-gives, keeps-leads     a run of them
+--     isolated-append              a run in two parts
+--     kept-room, kept-moves        `advance` over a stretch
+--     turn-room, turn-moves        and over one character
+use Prim.Native.Nat.{ℕ, suc, _+_, _-_, _≤_, _<_}
+use mathlib.Core.Bool.{Bool, true, false, not, _||_}
+use mathlib.Core.List.{List, [], _∷_, _++_, append-nil, append-assoc}
+use mathlib.Core.Logic.{⊎-elim}
+use mathlib.Core.Path.{_≡_, refl, sym, ap, _∙_}
+use native.Mathlib.Omega.{arith}
+use lib.Dec.{eqb}
+use lib.ListN.{length, drop, getD, length-append}
+use lib.Seq.{sets, drop-cons}
+use Rattle.unicode.proofs.Kit.{never, or-cases}
+use Rattle.ranges.specs.declared.Range.{Range}
+use Rattle.page.specs.Page.{assigned}
+use Rattle.page.specs.Inner.{Assigned}
+use Rattle.stretch.specs.declared.Sought.{Sought}
+use Rattle.stretch.specs.Stretch.{inSought, eitherOf, part}
+use Rattle.stretch.proofs.Seeking.{none-in-gap}
+use Rattle.stretch.proofs.Parts.{cut, part-length, part-at, part-one}
+use Rattle.text_utils.specs.Classes.{isPrivateUse}
+use Rattle.isolate_unassigned.specs.declared.IsolateUnassigned.{IsolateUnassigned}
+use Rattle.isolate_unassigned.specs.declared.Isolated.{Isolated}
+use Rattle.isolate_unassigned.specs.declared.Isolated.the-variants.{One, Two}
+use Rattle.isolate_unassigned.specs.Isolate.{toIsolate, isolatorOf, isolateStepOf, givesOut, after, isolatedFrom}
+use Rattle.isolate_unassigned.specs.Inner.{gives, leads, Nearer, Keeps, Moves}
+
+module _ (p : List ℕ) (base near : Range) (a : Assigned p base) (b : Assigned p near) (c : ℕ) where
+  pub either-assigned : inSought (eitherOf base near) c ≡ true → assigned p c ≡ true
+  either-assigned h =
+      ⊎-elim (λ t. ⊎-elim (λ u. a c u) (λ u. b c u) (or-cases _ _ t)) (λ t. never (sym (none-in-gap c) ∙ t)) (or-cases _ _ h)
+
+-- the base and the range that `nearer` answers tell whether c is to be isolated
+pub known : (p : List ℕ) (base near : Range) (c : ℕ) → Nearer p base c near → (q : Sought) → q ≡ eitherOf base near → (a u : Bool) →
+    a ≡ inSought q c → u ≡ isPrivateUse c → not (a || u) ≡ toIsolate p c
+unfolding toIsolate
+known p base near c n q e a u f g =
+    let h : a ≡ assigned p c = f ∙ ap (λ (x : Sought). inSought x c) e ∙ n .tells in
+    rw (h, g)
+
+module _ (p : List ℕ) where
+  pub keep-step : (r : IsolateUnassigned) (c : ℕ) → r .«need_cgj» ≡ false → assigned p c ≡ true →
+      isolateStepOf p r c ≡ One c (isolatorOf false (eqb c 0x34F))
+  unfolding isolateStepOf toIsolate
+  keep-step r c n a = simp (n, a)
+
+  pub keeps-gives : (xs : List ℕ) (r : IsolateUnassigned) → r .«need_cgj» ≡ false → ((x : ℕ) → x < length xs → assigned p (getD xs x 0) ≡ true) → gives p r xs ≡ xs
+  keeps-gives [] r n h = refl
+  keeps-gives (c ∷ xs) r n h =
+      rw (keep-step r c n (h 0 (omega arith))) (ap (λ l. c ∷ l) (keeps-gives xs (isolatorOf false (eqb c 0x34F)) refl (λ x l. h (suc x) (omega arith))))
+
+  pub keeps-leads : (xs : List ℕ) (n : ℕ) (r : IsolateUnassigned) → length xs ≡ suc n → r .«need_cgj» ≡ false → ((x : ℕ) → x < length xs → assigned p (getD xs x 0) ≡ true) →
+      leads p r xs ≡ isolatorOf false (eqb (getD xs n 0) 0x34F)
+  keeps-leads [] n r e f h = absurd (omega arith)
+  keeps-leads (c ∷ []) n r e f h =
+      let q : n ≡ 0 = omega arith in
+      ap after (keep-step r c f (h 0 (omega arith))) ∙ rw q
+  keeps-leads (c ∷ d ∷ xs) n r e f h =
+      let q : n ≡ suc (length xs) = omega arith in
+      ap (λ (s : Isolated). leads p (after s) (d ∷ xs)) (keep-step r c f (h 0 (omega arith)))
+      ∙ keeps-leads (d ∷ xs) (length xs) (isolatorOf false (eqb c 0x34F)) refl refl (λ x l. h (suc x) (omega arith)) ∙ rw q
+
+  pub isolated-append : (xs ys : List ℕ) (r : IsolateUnassigned) → isolatedFrom p r (xs ++ ys) ≡ gives p r xs ++ isolatedFrom p (leads p r xs) ys
+  isolated-append [] ys r = refl
+  isolated-append (c ∷ xs) ys r = simp (isolated-append xs ys (after (isolateStepOf p r c)), append-assoc)
+
+-- ---- `advance`: a stretch that is kept, or one character
+module _ (p : List ℕ) (r : IsolateUnassigned) (cs : List ℕ) (i : ℕ) (out : List ℕ) (k : ℕ) where
+  abbrev Room : Type 0
+  Room = k + length (isolatedFrom p r (drop i cs)) ≤ length out
+
+  module _ (base near : Range) (a : Assigned p base) (b : Assigned p near) (j : ℕ) (v : Keeps r cs base near i j) (more : i < j) where
+    size : length (part i j cs) ≡ j - i
+    size = part-length cs i j (v .kept .on) (v .kept .low)
+
+    each : (x : ℕ) → x < length (part i j cs) → assigned p (getD (part i j cs) x 0) ≡ true
+    each x l =
+        let h : x < j - i = omega (arith, size) in
+        rw (part-at cs i j (v .kept .on) x h) (either-assigned p base near a b (getD cs (i + x) 0) (v .kept .each (i + x) (omega arith) (omega arith)))
+
+    kept-gives : gives p r (part i j cs) ≡ part i j cs
+    kept-gives = keeps-gives p (part i j cs) r (v .free more) each
+
+    kept-leads : leads p r (part i j cs) ≡ isolatorOf false (eqb (getD cs (j - 1) 0) 0x34F)
+    kept-leads =
+        let e : i + (j - i - 1) ≡ j - 1 = omega arith in
+        keeps-leads p (part i j cs) (j - i - 1) r (omega (arith, size)) (v .free more) each
+        ∙ ap (λ (c : ℕ). isolatorOf false (eqb c 0x34F)) (part-at cs i j (v .kept .on) (j - i - 1) (omega arith) ∙ ap (λ x. getD cs x 0) e)
+
+    pub kept-room : Room → k + length (part i j cs) ≤ length out
+    kept-room room =
+        let e = ap (isolatedFrom p r) (cut cs i j (v .kept .on)) ∙ isolated-append p (part i j cs) (drop j cs) r in
+        let n = ap length e ∙ length-append (gives p r (part i j cs)) (isolatedFrom p (leads p r (part i j cs)) (drop j cs)) in
+        let m = ap length kept-gives in
+        omega (arith, n, m)
+
+    pub kept-moves : (places : List ℕ) → places ≡ sets out k (part i j cs) →
+        Moves p r cs i out k (record { at = j; written = k + (j - i); next = isolatorOf false (eqb (getD cs (j - 1) 0) 0x34F); near = near }) places
+    kept-moves places e =
+        record {
+          on = more;
+          under = v .kept .low;
+          written = rw kept-gives (ap (λ n. k + n) (sym size));
+          next = sym kept-leads;
+          places = rw kept-gives e;
+          near = b;
+        }
+
+  module _ (here : i < length cs) where
+    abbrev step : Isolated
+    step = isolateStepOf p r (getD cs i 0)
+
+    one-gives : gives p r (part i (i + 1) cs) ≡ givesOut step
+    one-gives = rw (part-one cs i here, append-nil)
+
+    pub turn-room : Room → k + length (givesOut step) ≤ length out
+    turn-room room =
+        let e = ap (isolatedFrom p r) (drop-cons cs i 0 here) in
+        let n = ap length e ∙ length-append (givesOut step) (isolatedFrom p (after step) (drop (suc i) cs)) in
+        omega (arith, n)
+
+    pub turn-moves : (near : Range) → Assigned p near → (w : ℕ) → w ≡ k + length (givesOut step) → (next : IsolateUnassigned) → next ≡ after step →
+        (places : List ℕ) → places ≡ sets out k (givesOut step) →
+        Moves p r cs i out k (record { at = i + 1; written = w; next = next; near = near }) places
+    turn-moves near g w f next e places a =
+        record {
+          on = omega arith;
+          under = omega arith;
+          written = rw one-gives f;
+          next = rw (part-one cs i here) e;
+          places = rw one-gives a;
+          near = g;
+        }

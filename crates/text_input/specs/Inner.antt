@@ -1,0 +1,53 @@
+-- What the private functions of src/lib.rt answer that take more than one character at a time. No entry's contract cites this file.
+-- Assumes nothing.
+use Prim.Native.Nat.{ℕ, _+_, _≤_, _<_}
+use mathlib.Core.Bool.{Bool, true, false, not, _&&_}
+use mathlib.Core.List.{List}
+use mathlib.Core.Path.{_≡_}
+use lib.Dec.{eqb}
+use lib.ListN.{length, getD}
+use lib.Seq.{sets}
+use Rattle.stretch.specs.Stretch.{part}
+use Rattle.stretch.specs.Plain.{Kept, Gap}
+use Rattle.text_input.specs.declared.State.{State}
+use Rattle.text_input.specs.declared.State.the-variants.{Ground, Cr, Ff, Esc, CsiStart, Csi, Osc, Linux}
+use Rattle.text_input.specs.declared.Options.{Options}
+use Rattle.text_input.specs.declared.TextInput.{TextInput}
+use Rattle.text_input.specs.declared.Moved.{Moved}
+use Rattle.text_input.specs.Scan.{outs, ends}
+
+-- nothing is pending
+abbrev pub grounded : State → Bool
+grounded (Ground b) = true
+grounded Cr = false
+grounded Ff = false
+grounded Esc = false
+grounded CsiStart = false
+grounded Csi = false
+grounded Osc = false
+grounded Linux = false
+
+-- nothing is pending and no start is expected
+abbrev pub steady : TextInput → Bool
+steady r = grounded (r .state) && not (r .«expect_starter»)
+
+-- the record after characters that are appended as they come, the last of them c
+abbrev pub passedBy : TextInput → ℕ → TextInput
+passedBy r c =
+    record { state = Ground (eqb c 0x0A); «expect_starter» = false; «at_start» = r .«at_start»; last = c; count = r .count }
+
+-- j is i, or nothing is pending, no start is expected, and all from place i up to place j are newlines or plain
+pub record Keeps (r : TextInput) (chunk : List ℕ) (i j : ℕ) : Type 0 where
+  pub from : i ≤ j
+  pub low : j ≤ length chunk
+  pub ready : i < j → steady r ≡ true
+  pub kept : (x : ℕ) → i ≤ x → x < j → Kept (getD chunk x 0)
+
+-- the chunk is taken from place i up to a later one, and what its characters come to is stored from place k on
+pub record Moves (p : List ℕ) (o : Options) (r : TextInput) (chunk : List ℕ) (i : ℕ) (queue : List ℕ) (k : ℕ) (m : Moved) (after : List ℕ) : Type 0 where
+  pub on : i < m .at
+  pub low : m .at ≤ length chunk
+  pub written : m .written ≡ k + length (outs p o r (part i (m .at) chunk))
+  pub next : m .next ≡ ends p o r (part i (m .at) chunk)
+  pub places : after ≡ sets queue k (outs p o r (part i (m .at) chunk))
+  pub gap : Gap (m .gap)
