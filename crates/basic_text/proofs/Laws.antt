@@ -3,16 +3,18 @@
 --     four-more         four more places for each number
 --     length-numbers    a number for every four bytes
 --     numbers-at        the number at a place, by its four bytes
+--     numbers-cut       the numbers from a place on are those of a part of the bytes, and the numbers behind it
 --     length-bytes      four bytes for every number
 --     bytes-append      the bytes of two lists one after the other
 --     with-filled       numbers stored in the first places are their bytes stored in the first places
 --     with-all          the numbers as they were are the bytes as they were
-use Prim.Native.Nat.{ℕ, zero, suc, _+_, _*_, _/_, _%_, _≤_, _<_}
+use Prim.Native.Nat.{ℕ, zero, suc, _+_, _-_, _*_, _/_, _%_, _≤_, _<_}
 use mathlib.Core.Path.{_≡_, refl, ap, sym, _∙_}
 use mathlib.Core.List.{List, [], _∷_, _++_}
 use native.Mathlib.Omega.{arith}
-use lib.ListN.{length, getD, drop}
+use lib.ListN.{length, getD, take, drop}
 use Rattle.unicode.specs.Chars.{filled}
+use Rattle.stretch.proofs.Parts.{cut}
 use Rattle.basic_text.specs.Exports.{numberOf, numbersOf, bytesOf, withNumbers}
 
 abbrev pub Bytes : List ℕ → Type 0
@@ -49,6 +51,28 @@ numbers-at (a ∷ b ∷ c ∷ d ∷ rest) (suc i) h =
     numbers-at rest i (omega arith)
     ∙ sym (fourAt-more a b c d rest (4 * i))
     ∙ ap (fourAt (a ∷ b ∷ c ∷ d ∷ rest)) (sym (four-more i))
+
+numbers-drop : (i : ℕ) (bytes : List ℕ) → numbersOf (drop (4 * i) bytes) ≡ drop i (numbersOf bytes)
+numbers-drop zero bytes = refl
+numbers-drop (suc i) [] = rw (four-more i)
+numbers-drop (suc i) (a ∷ []) = rw (four-more i)
+numbers-drop (suc i) (a ∷ b ∷ []) = rw (four-more i)
+numbers-drop (suc i) (a ∷ b ∷ c ∷ []) = rw (four-more i)
+numbers-drop (suc i) (a ∷ b ∷ c ∷ d ∷ rest) = rw (four-more i) (numbers-drop i rest)
+
+numbers-take : (n : ℕ) (bytes : List ℕ) → numbersOf (take (4 * n) bytes) ≡ take n (numbersOf bytes)
+numbers-take zero bytes = refl
+numbers-take (suc n) [] = rw (four-more n)
+numbers-take (suc n) (a ∷ []) = rw (four-more n)
+numbers-take (suc n) (a ∷ b ∷ []) = rw (four-more n)
+numbers-take (suc n) (a ∷ b ∷ c ∷ []) = rw (four-more n)
+numbers-take (suc n) (a ∷ b ∷ c ∷ d ∷ rest) = rw (four-more n) (ap (λ (l : List ℕ). numberOf a b c d ∷ l) (numbers-take n rest))
+
+pub numbers-cut : (bytes : List ℕ) (i j : ℕ) → i ≤ j →
+    drop i (numbersOf bytes) ≡ numbersOf (take (4 * j - 4 * i) (drop (4 * i) bytes)) ++ drop j (numbersOf bytes)
+numbers-cut bytes i j on =
+    let e : 4 * j - 4 * i ≡ 4 * (j - i) = omega arith in
+    rw (e, numbers-take (j - i) (drop (4 * i) bytes), numbers-drop i bytes) (cut (numbersOf bytes) i j on)
 
 pub length-bytes : (ns : List ℕ) → length (bytesOf ns) ≡ 4 * length ns
 length-bytes [] = refl

@@ -2,7 +2,7 @@
 pub mod Laws
 pub mod Crossing
 pub mod Stores
-pub mod Pages
 pub mod Loop
 pub mod Calls
+pub mod Pages
 pub mod Moved

@@ -2,24 +2,23 @@
 -- to the same end as all of them stored from the first place on. Assumes nothing.
 --     Going     what holds at the head of the loop
 --     begin     at the start, where there is room for the whole
---     fits      there is room for what a step appends
---     again     after a turn
+--     few       how long a piece is
+--     fits      there is room for what a piece appends
+--     again     after a piece
 --     ended     after the last character
 use mathlib.Core.Path.{_≡_, refl, sym, ap, _∙_}
 use mathlib.Core.List.{List, [], _++_}
-use Prim.Native.Nat.{ℕ, _+_, _*_, _≤_, _<_}
+use Prim.Native.Nat.{ℕ, _+_, _*_, _≤_}
 use native.Mathlib.Nat.{zero-add}
-use native.Mathlib.Numerals.{add-one}
 use native.Mathlib.Omega.{arith}
-use lib.ListN.{length, getD, drop, length-append}
-use lib.Seq.{sets, drop-cons, length-sets, drop-length}
+use lib.ListN.{length, drop, length-append, length-drop}
+use lib.Seq.{sets, length-sets, drop-length}
 use Rattle.unicode.specs.Chars.{filled}
 use Rattle.text_input.specs.declared.Options.{Options}
 use Rattle.text_input.specs.declared.TextInput.{TextInput}
-use Rattle.text_input.specs.declared.step.Step.{Step}
-use Rattle.text_input.specs.Step.{scanStepOf, outChars}
 use Rattle.text_input.specs.Scan.{outs, ends}
 use Rattle.unicode.proofs.Lists.{sets-filled}
+use Rattle.text_input.proofs.Chunks.{outs-append, ends-append}
 use Rattle.basic_text.specs.Exports.{bytesOf}
 use Rattle.basic_text.proofs.Laws.{length-bytes}
 use Rattle.basic_text.proofs.Stores.{sets-bytes}
@@ -57,26 +56,36 @@ module _ (p : List ℕ) (o : Options) (cs : List ℕ) (from : ℕ) (queue₀ : L
           (simp n at (g .next), simp n at (g .stored)),
         )
 
-    module _ (c : ℕ) (more : i < length cs) (at : c ≡ getD cs i 0) where
-      abbrev now : Step
-      now = scanStepOf p o r c
+    -- a piece of them, from place i up to place j
+    module _ (j : ℕ) (ns : List ℕ) (low : j ≤ length cs) (split : drop i cs ≡ ns ++ drop j cs) where
+      abbrev here : List ℕ
+      here = outs p o r ns
 
-      left : outs p o r (drop i cs) ≡ outChars now ++ outs p o (now .next) (drop (i + 1) cs)
-      left = rw (add-one, drop-cons cs i 0, at)
+      abbrev rest : List ℕ
+      rest = outs p o (ends p o r ns) (drop j cs)
 
-      size : length (outs p o r (drop i cs)) ≡ length (outChars now) + length (outs p o (now .next) (drop (i + 1) cs))
-      size = ap length left ∙ length-append (outChars now) (outs p o (now .next) (drop (i + 1) cs))
+      both : outs p o r (drop i cs) ≡ here ++ rest
+      both = ap (outs p o r) split ∙ outs-append p o r ns (drop j cs)
 
-      pub fits : 4 * (k + length (outChars now)) ≤ length queue
+      size : length (outs p o r (drop i cs)) ≡ length here + length rest
+      size = ap length both ∙ length-append here rest
+
+      pub few : length ns + i ≡ j
+      few = omega (arith, g .low, ap length split ∙ length-append ns (drop j cs), length-drop i cs, length-drop j cs)
+
+      pub fits : 4 * (k + length here) ≤ length queue
       fits = omega (arith, size, g .room, g .same, g .count)
 
-      pub again : Going (sets queue (4 * k) (bytesOf (outChars now))) (now .next) (k + length (outChars now)) (i + 1)
-      again =
+      -- what a piece leaves: the queue, the record, and how far the queue is written
+      pub again : (after : List ℕ) (next : TextInput) (written : ℕ) →
+          (written ≡ k + length here) × ((next ≡ ends p o r ns) × (after ≡ sets queue (4 * k) (bytesOf here))) → Going after next written j
+      again after next written e =
+          rw (e .0, e .1 .0, e .1 .1)
           record {
-            low = omega arith;
-            same = length-sets queue (4 * k) (bytesOf (outChars now)) ∙ g .same;
+            low = low;
+            same = length-sets queue (4 * k) (bytesOf here) ∙ g .same;
             room = g .room;
             count = omega (arith, size, g .count);
-            next = rw (add-one, at) (rw (drop-cons cs i 0) at (g .next));
-            stored = sym (sets-bytes (outChars now) (outs p o (now .next) (drop (i + 1) cs)) queue k) ∙ rw left at (g .stored);
+            next = sym (ends-append p o r ns (drop j cs)) ∙ rw split at (g .next);
+            stored = sym (sets-bytes here rest queue k) ∙ rw both at (g .stored);
           }

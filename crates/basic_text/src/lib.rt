@@ -87,6 +87,24 @@ pub struct WriteReply {
 // The numbers of the longest page that is accepted: 2 + 2 × (2,048 + 2,048).
 const LONGEST: usize = 8194;
 
+// The numbers of a short page at most. That of Unicode 15.0.0 has 1,796. For a short page a call zeroes a quarter of the places.
+const SHORT: usize = 2048;
+
+// Reads a page into the first places of all, and answers how many numbers it has: none for one that is wrong by its length.
+// Inner: asks that it is no longer than the longest, and for room.
+fn read_fitting(page: &[u8], all: &mut [u32]) -> usize
+    requires longest { ⌜ length (numbersOf (now page)) ≤ longestPage ⌝ }
+    requires room { ⌜ length (numbersOf (now page)) ≤ length (now all) ⌝ }
+    ensures within { λ r. ⌜ r ≤ length (numbersOf (now (page .entry))) ⌝ }
+    ensures places { λ r. ⌜ take r (now (all .exit)) ≡ fitting (pageOf (now (page .entry))) ⌝ }
+{
+    if page.len() % 4 == 0 {
+        read_numbers(page, all);
+        return page.len() / 4;
+    }
+    0
+}
+
 // Reads a page into the first places of all, and answers how many numbers it has: none for one that is wrong by its length.
 // Inner: asks for room for the longest page.
 fn read_page(page: &[u8], all: &mut [u32]) -> usize
@@ -94,13 +112,8 @@ fn read_page(page: &[u8], all: &mut [u32]) -> usize
     ensures { λ r. ⌜ r ≤ longestPage ⌝ }
     ensures { λ r. ⌜ take r (now (all .exit)) ≡ fitting (pageOf (now (page .entry))) ⌝ }
 {
-    let n = page.len() / 4;
-    if page.len() % 4 == 0 {
-        if n <= LONGEST {
-            read_numbers(page, all);
-            return n;
-        }
-        return 0;
+    if page.len() / 4 <= LONGEST {
+        return read_fitting(page, all);
     }
     0
 }
@@ -161,10 +174,16 @@ pub extern "C" fn basic_text_scan(
         (now (queue .entry))
         ⌝ }
 {
-    let mut all = [0u32; LONGEST];
-    let n = read_page(page, &mut all);
     let r = record_of(record);
     let o = options_of(options);
+    if page.len() / 4 <= SHORT {
+        let mut few = [0u32; SHORT];
+        let n = read_fitting(page, &mut few);
+        let scanned = scan(r, &few[0..n], o, chunk, queue);
+        return reply_of(scanned);
+    }
+    let mut all = [0u32; LONGEST];
+    let n = read_page(page, &mut all);
     let scanned = scan(r, &all[0..n], o, chunk, queue);
     reply_of(scanned)
 }
@@ -225,9 +244,15 @@ pub extern "C" fn basic_text_write(
         (now (queue .entry))
         ⌝ }
 {
+    let w = writer_of(writer);
+    if page.len() / 4 <= SHORT {
+        let mut few = [0u32; SHORT];
+        let n = read_fitting(page, &mut few);
+        let written = write(w, &few[0..n], bytes, queue);
+        return write_reply_of(written);
+    }
     let mut all = [0u32; LONGEST];
     let n = read_page(page, &mut all);
-    let w = writer_of(writer);
     let written = write(w, &all[0..n], bytes, queue);
     write_reply_of(written)
 }

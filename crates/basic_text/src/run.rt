@@ -1,6 +1,6 @@
-// A run of characters, read from bytes and written to bytes. The characters of one step are stored as numbers first, since a step
-// appends at most four.
+// A run of characters, read from bytes and written to bytes, piece by piece: each piece is a run of the crate `text_input`.
 use super::numbers::read_number;
+use super::numbers::read_numbers;
 use super::numbers::write_numbers;
 use text_input::Options;
 use text_input::Ran;
@@ -8,12 +8,11 @@ use text_input::TextInput;
 use unicode::BOM;
 ghost use mathlib.Core.Path.{_≡_};
 ghost use mathlib.Core.Bool.{true};
-ghost use Prim.Native.Nat.{_+_, _*_, _≤_};
+ghost use Prim.Native.Nat.{_+_, _*_, _≤_, _<_};
 ghost use lib.ListN.{length, drop};
 ghost use lib.Seq.{sets};
 ghost use Rattle.unicode.specs.Chars.{filled};
 ghost use Rattle.page.specs.Page.{accepted};
-ghost use Rattle.text_input.specs.Step.{scanStepOf, outChars};
 ghost use Rattle.text_input.specs.Scan.{outs, ends, skipped};
 ghost use Rattle.basic_text.specs.Exports.{numbersOf, bytesOf};
 
@@ -31,18 +30,41 @@ pub fn skips(r: TextInput, chunk: &[u8]) -> usize
     0
 }
 
-// One character, and its output stored from place k on. Inner: asks for an accepted page and for room.
-fn turn(r: TextInput, page: &[u32], options: Options, c: u32, queue: &mut [u8], k: usize) -> Ran
-    requires { ⌜ accepted (now page) ≡ true ⌝ }
-    requires { ⌜ 4 * (k + length (outChars (scanStepOf (now page) options r c))) ≤ length (now queue) ⌝ }
-    ensures written { λ ran. ⌜ ran .written ≡ k + length (outChars (scanStepOf (now (page .entry)) options r c)) ⌝ }
-    ensures next { λ ran. ⌜ ran .next ≡ scanStepOf (now (page .entry)) options r c .next ⌝ }
-    ensures places { λ ran. ⌜ now (queue .exit) ≡ sets (now (queue .entry)) (4 * k) (bytesOf (outChars (scanStepOf (now (page .entry)) options r c))) ⌝ }
+// The end of the next piece, of at most 256 numbers, where n are there and those from place i on are left. Inner: asks for one.
+fn piece_end(i: usize, n: usize) -> usize
+    requires { ⌜ i < n ⌝ }
+    ensures { λ j. ⌜ (i < j) × ((j ≤ n) × (j ≤ i + 256)) ⌝ }
 {
-    let mut four = [0u32; 4];
-    let ran = r.turn(page, options, c, &mut four, 0);
+    if n - i < 256 { n } else { i + 256 }
+}
+
+// The characters of a piece, and their output stored from place k on. They are read into numbers, and their output is written to
+// places first. Inner: asks for an accepted page and for room in each of the three; 3 × n + 1 places are enough for n characters.
+fn piece(
+    r: TextInput,
+    page: &[u32],
+    options: Options,
+    bytes: &[u8],
+    numbers: &mut [u32],
+    places: &mut [u32],
+    queue: &mut [u8],
+    k: usize,
+) -> Ran
+    requires page { ⌜ accepted (now page) ≡ true ⌝ }
+    requires numbers { ⌜ length (numbersOf (now bytes)) ≤ length (now numbers) ⌝ }
+    requires places { ⌜ 3 * length (numbersOf (now bytes)) + 1 ≤ length (now places) ⌝ }
+    requires room { ⌜ 4 * (k + length (outs (now page) options r (numbersOf (now bytes)))) ≤ length (now queue) ⌝ }
+    ensures written { λ ran. ⌜ ran .written ≡ k + length (outs (now (page .entry)) options r (numbersOf (now (bytes .entry)))) ⌝ }
+    ensures next { λ ran. ⌜ ran .next ≡ ends (now (page .entry)) options r (numbersOf (now (bytes .entry))) ⌝ }
+    ensures stored { λ ran. ⌜
+        now (queue .exit) ≡ sets (now (queue .entry)) (4 * k) (bytesOf (outs (now (page .entry)) options r (numbersOf (now (bytes .entry)))))
+        ⌝ }
+{
+    read_numbers(bytes, numbers);
+    let m = bytes.len() / 4;
+    let ran = r.run(page, options, &numbers[0..m], places);
     let n = ran.written;
-    write_numbers(queue, k, &four, n);
+    write_numbers(queue, k, places, n);
     let next = ran.next;
     Ran {
         written: k + n,
@@ -67,15 +89,20 @@ pub fn run(
     ensures next { λ ran. ⌜ ran .next ≡ ends (now (page .entry)) options first (drop from (numbersOf (now (chunk .entry)))) ⌝ }
     ensures places { λ ran. ⌜ now (queue .exit) ≡ filled (bytesOf (outs (now (page .entry)) options first (drop from (numbersOf (now (chunk .entry)))))) (now (queue .entry)) ⌝ }
 {
+    let mut numbers = [0u32; 256];
+    let mut places = [0u32; 769];
     let mut r = first;
     let mut k = 0;
     let mut i = from;
     while i < chunk.len() / 4 {
-        let c = read_number(chunk, i);
-        let turned = turn(r, page, options, c, queue, k);
-        k = turned.written;
-        r = turned.next;
-        i += 1;
+        let end = piece_end(i, chunk.len() / 4);
+        let a = 4 * i;
+        let e = 4 * end;
+        let bytes = &chunk[a..e];
+        let ran = piece(r, page, options, bytes, &mut numbers, &mut places, queue, k);
+        k = ran.written;
+        r = ran.next;
+        i = end;
     }
     Ran {
         written: k,

@@ -1,45 +1,80 @@
 -- `basic_text::run::run` meets its contract. The loop's invariant: what is left leads to the same end as the whole. The measure is
 -- what is left of the characters.
-use Prim.Native.Nat.{_-_, _<_, _≤_}
+use Prim.Native.Nat.{ℕ, _-_, _*_, _<_, _≤_}
+use mathlib.Core.Path.{_≡_, refl}
+use mathlib.Core.List.{List, _++_}
+use borrow.Author.Needs.{needs}
 use native.Mathlib.Omega.{arith}
-use lib.ListN.{length}
+use lib.ListN.{length, take, drop}
 use Rattle.basic_text.specs.Exports.{numbersOf}
-use Rattle.basic_text.proofs.Laws.{length-numbers}
-use Rattle.basic_text.proofs.Loop.{Going, begin, fits, again, ended}
+use Rattle.basic_text.proofs.Laws.{length-numbers, numbers-cut}
+use Rattle.basic_text.proofs.Loop.{Going, begin, few, fits, again, ended}
 use Rattle.basic_text.proofs.run.run.Statement.{statement}
 use Rattle.basic_text.proofs.run.run.Tie as tie
 
 abbrev Inv-loop : tie.InvT-loop
-Inv-loop page options chunk from queue₀ r₀ k₀ i₀ queue r k i = Going page options (numbersOf chunk) from queue₀ r₀ queue r k i
+Inv-loop page options chunk from queue₀ numbers₀ places₀ r₀ k₀ i₀ queue numbers places r k i =
+    Going page options (numbersOf chunk) from queue₀ r₀ queue r k i × ((length numbers ≡ 256) × (length places ≡ 769))
 
 abbrev μ-loop : tie.MeasureT-loop
-μ-loop page options chunk from queue₀ r₀ k₀ i₀ queue r k i = length (numbersOf chunk) - i
+μ-loop page options chunk from queue₀ numbers₀ places₀ r₀ k₀ i₀ queue numbers places r k i = length (numbersOf chunk) - i
 
--- a turn has a number to read
-more : (c : tie.In-loop Inv-loop μ-loop) →
-    c .before .loop .i < length (numbersOf (c .before .before .before .before .before .args .chunk .now))
-more c = omega (arith, length-numbers (c .before .before .before .before .before .args .chunk .now), c .loop-test .taken)
+-- the end of a piece
+module _ (c : tie.After-piece-end Inv-loop μ-loop) where
+  abbrev at : tie.At-loop Inv-loop μ-loop
+  at = c .before .before
+
+  abbrev entry : tie.Start Inv-loop μ-loop
+  entry = at .before .before .before .before
+
+  abbrev chunk : List ℕ
+  chunk = entry .args .chunk .now
+
+  abbrev end : ℕ
+  end = c .piece-end .result
+
+  inside : (at .loop .i < end) × ((end ≤ length (numbersOf chunk)) × (4 * end ≤ length chunk))
+  inside = let n = length-numbers chunk in (c .piece-end .ensures .0, (omega (arith, n, c .piece-end .ensures), omega (arith, c .piece-end .ensures)))
+
+  abbrev chars : List ℕ
+  chars = numbersOf (take (4 * end - 4 * at .loop .i) (drop (4 * at .loop .i) chunk))
+
+  -- its characters are the next of the chunk's
+  next : drop (at .loop .i) (numbersOf chunk) ≡ chars ++ drop end (numbersOf chunk)
+  next = numbers-cut chunk (at .loop .i) end (omega (arith, inside))
 
 loop-holds : tie.Need-loop-holds Inv-loop μ-loop
-loop-holds c = begin _ _ _ _ _ _ (c .before .before .before .pre .1 .0) (c .before .before .before .pre .1 .1)
+loop-holds c = let p = c .before .before .before .pre in (begin _ _ _ _ _ _ (p .1 .0) (p .1 .1), (refl, refl))
 
-turn-requires : tie.Need-turn-requires Inv-loop μ-loop
-turn-requires c κs =
-    let d = c .before .before in
-    (d .before .before .before .before .before .pre .0, fits _ _ _ _ _ _ _ _ _ _ (d .before .loop .inv) _ (more d) (c .before .read-number .ensures))
+piece-requires : tie.Need-piece-requires Inv-loop μ-loop
+piece-requires c κs =
+    let d = c .before .before .before .before in
+    let l = at d .loop in
+    let n = few _ _ _ _ _ _ _ _ _ _ (l .inv .0) _ (chars d) (inside d .1 .0) (next d) in (
+      entry d .pre .0,
+      (
+        omega (arith, n, d .piece-end .ensures, l .inv .1 .0),
+        (
+          omega (arith, n, d .piece-end .ensures, l .inv .1 .1),
+          fits _ _ _ _ _ _ _ _ _ _ (l .inv .0) _ (chars d) (inside d .1 .0) (next d),
+        ),
+      ),
+    )
 
 loop-again : tie.Need-loop-again Inv-loop μ-loop
 loop-again c =
-    let t = c .before .before .before in
-    let d = t .before .before .before in
-    rw (t .turn .ensures .0, t .turn .ensures .1 .0, t .turn .ensures .1 .1)
-    (again _ _ _ _ _ _ _ _ _ _ (d .before .loop .inv) _ (more d) (t .before .before .read-number .ensures))
+    let p = c .before .before .before .before .before in
+    let d = p .before .before .before .before .before in
+    let l = at d .loop in (
+      again _ _ _ _ _ _ _ _ _ _ (l .inv .0) _ (chars d) (inside d .1 .0) (next d) _ _ _ (p .piece .ensures),
+      (omega (arith, l .inv .1 .0), omega (arith, l .inv .1 .1)),
+    )
 
 returns : tie.Need-returns Inv-loop μ-loop
 returns c =
     let chunk = c .before .before .before .before .before .args .chunk .now in
     let past : length (numbersOf chunk) ≤ c .before .loop .i = omega (arith, length-numbers chunk, c .loop-test .left) in
-    ended _ _ _ _ _ _ _ _ _ _ (c .before .loop .inv) past
+    ended _ _ _ _ _ _ _ _ _ _ (c .before .loop .inv .0) past
 
 pub run-spec : {M : Type 1} → statement M
 run-spec =
@@ -48,10 +83,16 @@ run-spec =
     Inv-loop
     μ-loop
     loop-holds
-    (λ c κs. omega arith)
-    turn-requires
-    (λ c. omega (arith, more (c .before .before .before .before .before .before)))
-    (λ c. omega (arith, more (c .before .before .before .before .before .before)))
+    (λ c κs. c .loop-test .taken)
+    (λ c. omega (arith, inside c))
+    (λ c. omega (arith, inside c))
+    (λ c. omega (arith, inside c))
+    (λ c. omega (arith, inside c))
+    (λ c. omega (arith, inside c))
+    (λ c. search needs)
+    (λ c. search needs)
+    piece-requires
+    (λ c. omega (arith, inside (c .before .before .before .before .before .before .before .before .before .before)))
     loop-again
-    (λ c. c .before .loop .inv .same)
+    (λ c. c .before .loop .inv .0 .same)
     returns)
