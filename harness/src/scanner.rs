@@ -155,20 +155,17 @@ impl Scanner {
         self.count = record.count;
     }
 
-    /// Takes a text for `clean`.
-    pub fn load(&mut self, text: &str) {
-        self.reader.input.raw_string = text.to_owned();
-    }
-
-    /// `process_raw_string` alone, for the benchmark: on the text that is loaded, from a record as after one character. The
-    /// queue is emptied first and keeps its places. How many characters it has then.
-    pub fn clean(&mut self) -> usize {
+    /// `process_raw_string` alone, for the benchmark: on a text, which it has for the call, from a record as after one
+    /// character. The queue is emptied first and keeps its places. How many characters it has then.
+    pub fn clean(&mut self, text: &mut String) -> usize {
         let input = &mut self.reader.input;
         input.state = State::Ground(false);
         input.expect_starter = false;
         input.at_start = false;
         input.queue.clear();
+        std::mem::swap(&mut input.raw_string, text);
         input.process_raw_string();
+        std::mem::swap(&mut input.raw_string, text);
         input.queue.len()
     }
 }

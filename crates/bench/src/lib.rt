@@ -14,6 +14,7 @@ use text_output::TextOutput;
 use text_output::Wrote;
 use text_utils::is_basic_text_end;
 use text_utils::is_basic_text_start;
+use unicode::decode_utf8;
 use unicode::valid_prefix;
 ghost use mathlib.Core.Path.{_≡_};
 ghost use mathlib.Core.Bool.{true};
@@ -135,6 +136,13 @@ pub extern "C" fn bench_page(page: &[u32]) -> bool {
 pub extern "C" fn bench_prefix(bytes: &[u8]) -> usize {
     let p = valid_prefix(bytes);
     p.bytes
+}
+
+// How many places of out the characters of the longest valid prefix are decoded into.
+#[no_mangle]
+pub extern "C" fn bench_decode(bytes: &[u8], out: &mut [u32]) -> usize {
+    let p = decode_utf8(bytes, out);
+    p.chars
 }
 
 // How many places of queue a chunk is scanned into, from a record that stands in text; 0 where it is refused.

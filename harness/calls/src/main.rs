@@ -12,21 +12,25 @@ mod lists;
 #[allow(unsafe_code)]
 mod ours;
 mod sides;
+mod stretches;
 mod texts;
 mod writer_sides;
 mod writes;
 
 use sides::{Sides, NUMBERS};
 use std::process::ExitCode;
+use stretches::Step;
 use writer_sides::WriterSides;
 
 /// What is walked: texts of up to so many characters, with pushes of up to so many, and the characters that stand alone;
-/// whether every string of three bytes is written.
+/// whether every string of three bytes is written; one in so many of the stretches, and so many chunks of thousands.
 struct Extent {
     texts: usize,
     pushed: usize,
     alone: Vec<u32>,
     strings: bool,
+    step: usize,
+    chunks: u64,
 }
 
 fn main() -> ExitCode {
@@ -49,8 +53,8 @@ fn asked(words: &[String]) -> Option<(Extent, u64, u64)> {
         return None;
     };
     let extent = match form.as_str() {
-        "short" => Extent { texts: 3, pushed: 3, alone: texts::bounds(), strings: false },
-        "long" => Extent { texts: 5, pushed: 4, alone: texts::characters(), strings: true },
+        "short" => Extent { texts: 3, pushed: 3, alone: texts::bounds(), strings: false, step: 97, chunks: 10_000 },
+        "long" => Extent { texts: 5, pushed: 4, alone: texts::characters(), strings: true, step: 1, chunks: 300_000 },
         _ => return None,
     };
     Some((extent, seed.parse().ok()?, count.parse().ok()?))
@@ -73,6 +77,10 @@ fn compare_scanner(sides: &mut Sides, extent: &Extent, seed: u64, count: u64) ->
     say(sides, "pages by name");
     lists::random_lists(sides, seed, count)?;
     say(sides, "random lists");
+    stretches::every_place(sides, Step { step: extent.step, seed })?;
+    say(sides, &of_stretches("stretches, something awkward at every place", extent.step));
+    stretches::long_chunks(sides, seed, extent.chunks)?;
+    say(sides, "chunks of thousands");
     Ok(())
 }
 
@@ -89,7 +97,19 @@ fn compare_writer(sides: &mut WriterSides, extent: &Extent, seed: u64, count: u6
     say(sides, "writes, pages by name");
     writes::random_lists(sides, seed, count)?;
     say(sides, "writes, random lists");
+    stretches::every_place_written(sides, Step { step: extent.step, seed })?;
+    say(sides, &of_stretches("writes, stretches, something awkward at every place", extent.step));
+    stretches::long_chunks_written(sides, seed, extent.chunks)?;
+    say(sides, "writes, chunks of thousands");
     Ok(())
+}
+
+fn of_stretches(part: &str, step: usize) -> String {
+    if step == 1 {
+        part.to_owned()
+    } else {
+        format!("{part}, one in {step}")
+    }
 }
 
 /// Says what a part compared, refusals in the order of their tests, and begins the count anew.

@@ -8,7 +8,7 @@ use harness::text_input::scanner::{self, Scanner};
 use harness::words::list;
 
 /// The queue has at most so many bytes.
-pub const MOST_BYTES: usize = 4096;
+pub const MOST_BYTES: usize = 4 * 20_000;
 
 /// So many bytes past the queue are compared too: nothing may be written there.
 pub const PAST: usize = 8;

@@ -2,12 +2,9 @@
 //! handed out, the record, and every byte of the queue, with some past it.
 
 use crate::ours::{self, WriteReply, Writer, MOST_HELD};
-use crate::sides::{bytes, numbers, Lent, BLANK, NUMBERS, PAST};
+use crate::sides::{bytes, numbers, Lent, BLANK, MOST_BYTES, NUMBERS, PAST};
 use harness::text_output::writer::{self, Mode, Record, Refusal};
 use harness::words::{bytes_list, list};
-
-/// The queue has at most so many bytes.
-pub const MOST_BYTES: usize = 4 * 8192;
 
 /// Numbers that are no characters, as a forged record may hold or keep them. The oracle has a noncharacter for each, which
 /// no write hands out.

@@ -29,7 +29,7 @@ const FEW: [u8; 10] = [0x41, 0x80, 0x8F, 0x90, 0xBF, 0xED, 0xF0, 0xF3, 0xF4, 0xF
 const STRINGS_PAGE: [u32; 8] = [2, 1, 0x300, 0x370, 0, 0x34E, 0x3FF, LAST_CHARACTER];
 
 /// A writer that keeps more than so many characters is opened anew.
-const MOST_KEPT: usize = 1000;
+pub const MOST_KEPT: usize = 1000;
 
 /// Every string of up to three bytes (short: of up to two, and of three bounds), and of four bounds, to a fresh writer.
 pub fn every_string(sides: &mut WriterSides, long: bool) -> Result<(), String> {

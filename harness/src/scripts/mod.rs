@@ -10,6 +10,7 @@ pub mod leaves;
 pub mod pages;
 pub mod sample;
 pub mod scan;
+pub mod stretches;
 pub mod utf8;
 pub mod write;
 pub mod write_cases;
@@ -18,7 +19,7 @@ use crate::page::real_numbers;
 use crate::random::Random;
 
 /// The kinds of script.
-pub const KINDS: [&str; 12] = [
+pub const KINDS: [&str; 13] = [
     "cases",
     "pages",
     "utf8",
@@ -30,6 +31,7 @@ pub const KINDS: [&str; 12] = [
     "write-cases",
     "write",
     "demand",
+    "stretches",
     "sample",
 ];
 
@@ -40,10 +42,11 @@ pub type Lines = Box<dyn Iterator<Item = String>>;
 /// `every` the count is a step, one character in so many, and in `sample` it is that of the random ones. `demand` ends
 /// with a whole text, past the count.
 pub fn script(kind: &str, seed: u64, count: usize) -> Option<Lines> {
-    if kind == "every" {
-        return Some(Box::new(every::script(seed, count)));
+    match kind {
+        "every" => Some(Box::new(every::script(seed, count))),
+        "stretches" => Some(Box::new(stretches::script(seed, count))),
+        _ => drawn(kind, seed, count).map(|lines| Box::new(lines.into_iter()) as Lines),
     }
-    drawn(kind, seed, count).map(|lines| Box::new(lines.into_iter()) as Lines)
 }
 
 /// The kinds that are made as a whole.

@@ -16,13 +16,13 @@ const REFUSED: [u32; 14] =
 
 /// What the script knows of the writer.
 #[derive(Default)]
-struct Known {
+pub(super) struct Known {
     /// Its mode is color.
     color: bool,
     /// It claims what it cannot have.
     claims: bool,
     /// The kept and the held characters.
-    needed: usize,
+    pub(super) needed: usize,
 }
 
 pub fn script(random: &mut Random, count: usize) -> Vec<String> {
@@ -39,7 +39,7 @@ pub fn script(random: &mut Random, count: usize) -> Vec<String> {
 }
 
 impl Known {
-    fn learn(&mut self, line: &str, answer: &str) {
+    pub(super) fn learn(&mut self, line: &str, answer: &str) {
         if line.starts_with("W new") {
             self.color = line.ends_with("color");
         }

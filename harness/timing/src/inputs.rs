@@ -3,12 +3,6 @@
 use harness::check_basic_text_char;
 use harness::random::Random;
 
-/// So many characters are timed at once.
-pub const CHUNK: usize = 4096;
-
-/// So many chunks has an input.
-const CHUNKS: usize = 16;
-
 const ASCII: &str = "The quick brown fox jumps over the lazy dog, and then (at 10:45) it sleeps; let x = 42; \
     https://example.org/a?b=c A text of plain letters, digits 0123456789 and signs.";
 
@@ -23,54 +17,53 @@ const DEVANAGARI: &str = "सभी मनुष्यों को गौरव
 const AWKWARD: &str = "a\n\r\u{C}\u{1B}[]\u{7}\u{18}1mH \u{E9}\u{301}\u{200D}\u{FB03}\u{2028}\u{85}\u{FEFF}\u{2126}\
     \u{378}\u{34F}\u{600}\u{903}\u{1F3FB}\u{10FFFF}\u{7F}@?~\t";
 
-/// An input: its name and its characters.
-pub type Input = (&'static str, Vec<char>);
-
-/// The inputs of the leaves.
-pub fn inputs() -> [Input; 5] {
-    let random = &mut Random::new(5);
-    [
-        ("ASCII", words(random, ASCII, "\n")),
-        ("Latin", words(random, LATIN, "\n")),
-        ("CJK", characters(|| cjk(random))),
-        ("Devanagari", words(random, DEVANAGARI, "\n")),
-        ("random", characters(|| between(random, 0, 0x10FFFF))),
-    ]
+/// An input: its name, and so many characters of it.
+pub struct Input {
+    pub name: &'static str,
+    pub text: fn(usize) -> Vec<char>,
 }
 
-/// The inputs of the scanner.
-pub fn scan_inputs() -> [Input; 5] {
-    let random = &mut Random::new(6);
-    let [ascii, _, cjk, devanagari, _] = inputs();
-    let latin = ("Latin CRLF", words(random, LATIN, "\r\n"));
-    let list: Vec<char> = AWKWARD.chars().collect();
-    let awkward = ("awkward", characters(|| random.pick(&list)));
-    [ascii, latin, awkward, cjk, devanagari]
-}
+/// One set for all rows.
+pub const INPUTS: [Input; 6] = [
+    Input { name: "ASCII", text: |count| words(ASCII, "\n", count) },
+    Input { name: "Latin CRLF", text: |count| words(LATIN, "\r\n", count) },
+    Input { name: "CJK", text: |count| characters(cjk, count) },
+    Input { name: "Devanagari", text: |count| words(DEVANAGARI, "\n", count) },
+    Input { name: "awkward", text: awkward },
+    Input { name: "random", text: |count| characters(|random| between(random, 0, 0x10FFFF), count) },
+];
 
-/// The inputs of the writer: those of the leaves, without the characters that a plain writer refuses, which only the random
-/// one has.
-pub fn write_inputs() -> [Input; 5] {
-    inputs().map(|(name, mut text)| {
-        text.retain(|c| *c != '\u{1B}' && check_basic_text_char(*c).is_ok());
-        (name, text)
-    })
+/// The two on which the time of one call is followed as it grows: long stretches of plain characters, and none.
+pub const GROWING: [&Input; 2] = [&INPUTS[0], &INPUTS[4]];
+
+/// A text without the characters that a plain writer refuses. Of CRLF it leaves LF.
+pub fn writable(mut text: Vec<char>) -> Vec<char> {
+    text.retain(|c| *c != '\u{1B}' && check_basic_text_char(*c).is_ok());
+    text
 }
 
 /// Words of a text in random order, with a line end now and then.
-fn words(random: &mut Random, text: &str, line_end: &str) -> Vec<char> {
+fn words(text: &str, line_end: &str, count: usize) -> Vec<char> {
+    let random = &mut Random::new(5);
     let list: Vec<&str> = text.split_whitespace().collect();
-    let mut chars = Vec::new();
-    while chars.len() < CHUNK * CHUNKS {
+    let mut chars = Vec::with_capacity(count + 100);
+    while chars.len() < count {
         chars.extend(random.pick(&list).chars());
         chars.extend(if random.once_in(60) { line_end } else { " " }.chars());
     }
-    chars.truncate(CHUNK * CHUNKS);
+    chars.truncate(count);
     chars
 }
 
-fn characters(mut next: impl FnMut() -> char) -> Vec<char> {
-    (0..CHUNK * CHUNKS).map(|_| next()).collect()
+fn characters(next: fn(&mut Random) -> char, count: usize) -> Vec<char> {
+    let random = &mut Random::new(6);
+    (0..count).map(|_| next(random)).collect()
+}
+
+fn awkward(count: usize) -> Vec<char> {
+    let random = &mut Random::new(7);
+    let list: Vec<char> = AWKWARD.chars().collect();
+    (0..count).map(|_| random.pick(&list)).collect()
 }
 
 /// Most are ideographs; some are kana, Hangul and signs.

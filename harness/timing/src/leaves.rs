@@ -1,155 +1,191 @@
 //! The leaves, the scanner and the writer, each with its two sides.
 
-use crate::inputs::CHUNK;
+use crate::exports::{self, Record};
 use crate::{ours, rust};
 use harness::text_input::scanner::Scanner;
 use harness::text_output::writer::{Counter, Sink, Timed};
-use std::cell::RefCell;
 use std::collections::VecDeque;
 
-/// Some characters in the forms that the leaves take.
+/// Some characters in the forms that the sides take.
 pub struct Chunk {
     chars: Vec<char>,
     numbers: Vec<u32>,
+    /// The numbers as bytes, as the exports take them.
+    lent: Vec<u8>,
     text: String,
-    /// The original's scanner with the text loaded, so that a round has no copy of it to make.
-    scanner: RefCell<Scanner>,
 }
 
 impl Chunk {
     pub fn new(chars: &[char]) -> Self {
-        let text: String = chars.iter().collect();
-        let mut scanner = Scanner::default();
-        scanner.load(&text);
-        Self {
-            chars: chars.to_vec(),
-            numbers: chars.iter().map(|c| u32::from(*c)).collect(),
-            text,
-            scanner: RefCell::new(scanner),
-        }
+        let numbers: Vec<u32> = chars.iter().map(|c| u32::from(*c)).collect();
+        Self { chars: chars.to_vec(), lent: bytes(&numbers), numbers, text: chars.iter().collect() }
     }
+}
+
+/// Four bytes for each number, the low one first.
+fn bytes(numbers: &[u32]) -> Vec<u8> {
+    numbers.iter().flat_map(|number| number.to_le_bytes()).collect()
 }
 
 /// The page, and what the sides write to.
 pub struct Lent {
     pub page: Vec<u32>,
-    pub ours: Vec<u32>,
-    pub rust: Vec<u32>,
-    /// Room for a scan and for a write.
-    long: Vec<u32>,
+    page_bytes: Vec<u8>,
+    ours: Vec<u32>,
+    our_bytes: Vec<u8>,
+    rust: Vec<u32>,
+    scanner: Scanner,
     queue: VecDeque<char>,
     plain: Timed<Counter>,
     crlf: Timed<Counter>,
 }
 
 impl Lent {
-    pub fn new(page: Vec<u32>) -> Self {
-        let places = vec![0; 2 * CHUNK + 1];
+    /// Places for chunks of at most so many characters.
+    pub fn new(page: Vec<u32>, most: usize) -> Self {
+        let places = 3 * most + 1;
         Self {
+            page_bytes: bytes(&page),
             page,
-            ours: places.clone(),
-            rust: places,
-            long: vec![0; 3 * CHUNK + 1],
-            queue: VecDeque::with_capacity(4 * CHUNK),
+            ours: vec![0; places],
+            our_bytes: vec![0; 4 * places],
+            rust: vec![0; places],
+            scanner: Scanner::default(),
+            queue: VecDeque::new(),
             plain: Timed::open(false),
             crlf: Timed::open(true),
         }
     }
 }
 
-/// One side of a leaf: the sum over a chunk.
-pub type Side = fn(&mut Lent, &Chunk) -> usize;
+/// One side of a leaf: the sum over a chunk, or how many characters it wrote.
+pub type Side = fn(&mut Lent, &mut Chunk) -> usize;
 
 pub struct Leaf {
     pub name: &'static str,
     pub ours: Side,
     pub rust: Side,
+    /// Whether both sides wrote the same so many characters.
+    same: fn(&mut Lent, &Chunk, usize) -> bool,
 }
 
-/// The leaves on characters.
-pub const LEAVES: [Leaf; 6] = [
+impl Leaf {
+    /// Ends the program where the two sides of a call differ.
+    pub fn agree(&self, lent: &mut Lent, chunk: &mut Chunk) {
+        let (ours, rust) = ((self.ours)(lent, chunk), (self.rust)(lent, chunk));
+        let shown = || chunk.chars.iter().take(4096).flat_map(|c| c.escape_unicode()).collect::<String>();
+        assert!(ours == rust && (self.same)(lent, chunk, ours), "{} of {}", self.name, shown());
+    }
+}
+
+/// The leaves on characters and bytes.
+pub const LEAVES: [Leaf; 7] = [
     Leaf {
         name: "is_basic_text_end",
         ours: |_, chunk| ours::end(&chunk.numbers) as usize,
         rust: |_, chunk| rust::end(&chunk.chars) as usize,
+        same: nothing,
     },
     Leaf {
         name: "is_basic_text_start",
         ours: |lent, chunk| ours::start(&lent.page, &chunk.numbers) as usize,
         rust: |_, chunk| rust::start(&chunk.chars) as usize,
+        same: nothing,
     },
     Leaf {
         name: "replace",
         ours: |_, chunk| ours::replace(&chunk.numbers) as usize,
         rust: |lent, chunk| rust::replace(&chunk.chars, &mut lent.queue) as usize,
+        same: nothing,
     },
     Leaf {
         name: "check_basic_text_char",
         ours: |_, chunk| ours::check(&chunk.numbers) as usize,
         rust: |_, chunk| rust::check(&chunk.chars) as usize,
+        same: nothing,
     },
-    Leaf {
-        name: "isolate",
-        ours: |lent, chunk| ours::isolate(&lent.page, &chunk.numbers, &mut lent.ours),
-        rust: |lent, chunk| rust::isolate(&chunk.chars, &mut lent.rust),
-    },
+    ISOLATE,
     Leaf {
         name: "valid_prefix",
         ours: |_, chunk| ours::prefix(chunk.text.as_bytes()),
         rust: |_, chunk| rust::prefix(chunk.text.as_bytes()),
+        same: nothing,
     },
+    DECODE,
 ];
+
+pub const ISOLATE: Leaf = Leaf {
+    name: "isolate",
+    ours: |lent, chunk| ours::isolate(&lent.page, &chunk.numbers, &mut lent.ours),
+    rust: |lent, chunk| rust::isolate(&chunk.chars, &mut lent.rust),
+    same: |lent, _, count| lent.ours[..count] == lent.rust[..count],
+};
+
+pub const DECODE: Leaf = Leaf {
+    name: "decode_utf8",
+    ours: |lent, chunk| ours::decode(chunk.text.as_bytes(), &mut lent.ours),
+    rust: |lent, chunk| rust::decode(chunk.text.as_bytes(), &mut lent.rust),
+    same: |lent, _, count| lent.ours[..count] == lent.rust[..count],
+};
 
 /// The scanner, from a record as after one character, without options.
 pub const SCAN: Leaf = Leaf {
     name: "scan",
-    ours: |lent, chunk| ours::scan(&lent.page, &chunk.numbers, &mut lent.long),
-    rust: |_, chunk| chunk.scanner.borrow_mut().clean(),
+    ours: |lent, chunk| ours::scan(&lent.page, &chunk.numbers, &mut lent.ours),
+    rust: |lent, chunk| lent.scanner.clean(&mut chunk.text),
+    same: |lent, _, count| lent.scanner.tail(count).map(u32::from).eq(lent.ours[..count].iter().copied()),
 };
 
-/// Ends the program where the two sides of a scan differ.
-pub fn scans_agree(lent: &mut Lent, chunk: &Chunk) {
-    let (ours, rust) = ((SCAN.ours)(lent, chunk), (SCAN.rust)(lent, chunk));
-    assert_eq!(ours, rust, "scan of {:?}", chunk.chars);
-    let scanner = chunk.scanner.borrow();
-    assert!(scanner.tail(rust).map(u32::from).eq(lent.long[..ours].iter().copied()), "scan of {:?}", chunk.chars);
-}
+/// The same by the export of the crate `basic_text`, on bytes.
+pub const EXPORTED_SCAN: Leaf = Leaf {
+    name: "exported scan",
+    ours: |lent, chunk| {
+        let record = Record { state: 0, expect_starter: 0, at_start: 0, last: 0x61, count: 1 };
+        exports::scan(record, &lent.page_bytes, 0, &chunk.lent, &mut lent.our_bytes).written
+    },
+    rust: SCAN.rust,
+    same: |lent, _, count| {
+        let ours = lent.our_bytes[..4 * count].iter().copied();
+        lent.scanner.tail(count).flat_map(|c| u32::from(c).to_le_bytes()).eq(ours)
+    },
+};
 
 /// The writer, which expects no start: of characters, plain and CRLF, and of bytes. A side says whether the write succeeds.
 pub const WRITES: [Leaf; 3] = [
     Leaf {
         name: "write_str",
-        ours: |lent, chunk| usize::from(ours::write_str(&lent.page, false, &chunk.numbers, &mut lent.long) > 0),
+        ours: |lent, chunk| usize::from(ours::write_str(&lent.page, false, &chunk.numbers, &mut lent.ours) > 0),
         rust: |lent, chunk| usize::from(lent.plain.write_str(&chunk.text)),
+        same: |lent, chunk, _| {
+            let count = ours::write_str(&lent.page, false, &chunk.numbers, &mut lent.ours);
+            handed_out(false, |rust| rust.write_str(&chunk.text), &lent.ours[..count])
+        },
     },
     Leaf {
         name: "write_str crlf",
-        ours: |lent, chunk| usize::from(ours::write_str(&lent.page, true, &chunk.numbers, &mut lent.long) > 0),
+        ours: |lent, chunk| usize::from(ours::write_str(&lent.page, true, &chunk.numbers, &mut lent.ours) > 0),
         rust: |lent, chunk| usize::from(lent.crlf.write_str(&chunk.text)),
+        same: |lent, chunk, _| {
+            let count = ours::write_str(&lent.page, true, &chunk.numbers, &mut lent.ours);
+            handed_out(true, |rust| rust.write_str(&chunk.text), &lent.ours[..count])
+        },
     },
     Leaf {
         name: "write",
-        ours: |lent, chunk| usize::from(ours::write(&lent.page, chunk.text.as_bytes(), &mut lent.long) > 0),
+        ours: |lent, chunk| usize::from(ours::write(&lent.page, chunk.text.as_bytes(), &mut lent.ours) > 0),
         rust: |lent, chunk| usize::from(lent.plain.write(chunk.text.as_bytes())),
+        same: |lent, chunk, _| {
+            let count = ours::write(&lent.page, chunk.text.as_bytes(), &mut lent.ours);
+            handed_out(false, |rust| rust.write(chunk.text.as_bytes()), &lent.ours[..count])
+        },
     },
 ];
 
-/// Ends the program where the two sides of a write differ in what they hand out: nothing where it is refused.
-pub fn writes_agree(lent: &mut Lent, chunk: &Chunk) {
-    let same = |ours: &[u32], mut rust: Timed<Sink>, name: &str| {
-        let rust = rust.handed_out();
-        assert!(rust.iter().copied().map(u32::from).eq(ours.iter().copied()), "{name} of {:?}", chunk.chars);
-    };
-    for (crlf, name) in [(false, "write_str"), (true, "write_str crlf")] {
-        let count = ours::write_str(&lent.page, crlf, &chunk.numbers, &mut lent.long);
-        let mut rust = Timed::open(crlf);
-        rust.write_str(&chunk.text);
-        same(&lent.long[..count], rust, name);
-    }
-    let count = ours::write(&lent.page, chunk.text.as_bytes(), &mut lent.long);
-    let mut rust = Timed::open(false);
-    rust.write(chunk.text.as_bytes());
-    same(&lent.long[..count], rust, "write");
+/// Whether the Rust's write hands out what ours did: nothing where it is refused.
+fn handed_out(crlf: bool, write: impl FnOnce(&mut Timed<Sink>) -> bool, ours: &[u32]) -> bool {
+    let mut rust = Timed::open(crlf);
+    write(&mut rust);
+    rust.handed_out().into_iter().map(u32::from).eq(ours.iter().copied())
 }
 
 /// The leaf on the page: it takes no characters.
@@ -157,4 +193,10 @@ pub const PAGE: Leaf = Leaf {
     name: "is_accepted",
     ours: |lent, _| usize::from(ours::page(&lent.page)),
     rust: |lent, _| usize::from(rust::page(&lent.page)),
+    same: nothing,
 };
+
+/// Of a leaf that writes nothing the sums are all.
+fn nothing(_: &mut Lent, _: &Chunk, _: usize) -> bool {
+    true
+}

@@ -1,91 +1,138 @@
-//! Times each leaf, the scanner and the writer of the port beside the Rust's, in one run. First both sides must agree on every character.
+//! Times each leaf, the scanner and the writer of the port beside the Rust's, in one run:
+//!
+//!     timing CHART
+//!
+//! prints the tables, and writes how the time grows as a drawing to the file CHART. First both sides must agree on every
+//! character, and on every chunk before it is timed.
 
 #![deny(unsafe_code)]
 
+mod chart;
+mod clock;
+// The exports of the crate `basic_text`, of which the benchmark takes the scan.
+#[allow(dead_code, unsafe_code)]
+#[path = "../../calls/src/ours.rs"]
+mod exports;
+mod growth;
 mod inputs;
 mod leaves;
 #[allow(unsafe_code)]
 mod ours;
 mod rust;
 
-use inputs::{inputs, scan_inputs, write_inputs, CHUNK};
-use leaves::{scans_agree, writes_agree, Chunk, Leaf, Lent, Side, LEAVES, PAGE, SCAN, WRITES};
-use std::hint::black_box;
-use std::time::Instant;
+use clock::{least, Times};
+use inputs::{writable, INPUTS};
+use leaves::{Chunk, Leaf, Lent, EXPORTED_SCAN, ISOLATE, LEAVES, PAGE, SCAN, WRITES};
+use std::process::ExitCode;
 
-/// Every chunk is timed so often.
-const ROUNDS: usize = 100;
+/// So many characters are timed at once, as one chunk or as several.
+const CHUNK: usize = 4096;
 
-fn main() {
+/// Of an input so many chunks of that size are timed.
+const CHUNKS: usize = 16;
+
+/// The sizes of small chunks.
+const SMALL: [usize; 2] = [64, 16];
+
+/// So many calls on nearly nothing are timed at once.
+const CALLS: usize = 100;
+
+fn main() -> ExitCode {
+    let words: Vec<String> = std::env::args().skip(1).collect();
+    let [chart] = words.as_slice() else {
+        eprintln!("usage: timing CHART");
+        return ExitCode::from(2);
+    };
     // The Rust asks Debian's crate; the port asks the page that is made from it.
     harness::properties::answer_from(None);
-    let mut lent = Lent::new(harness::page::real_numbers());
+    let mut lent = Lent::new(harness::page::real_numbers(), growth::MOST);
 
-    println!("both sides agree on {} characters", agree(&mut lent));
-    println!("{:22} {:10} {:>8} {:>8} {:>6}", "ns per character", "", "ours", "Rust", "ratio");
-    for (input, text) in inputs() {
-        let chunks: Vec<Chunk> = text.chunks(CHUNK).map(Chunk::new).collect();
-        for leaf in &LEAVES {
-            row(leaf, input, least(leaf, &mut lent, &chunks, text.len()));
-        }
+    println!("both sides agree on {} characters", every_character(&mut lent));
+    of_characters(&mut lent);
+    of_calls(&mut lent);
+    let lines = growth::lines(&mut lent);
+    growth::print(&lines);
+    if let Err(error) = std::fs::write(chart, chart::drawn(&lines)) {
+        eprintln!("timing: {chart}: {error}");
+        return ExitCode::FAILURE;
     }
-    for (input, text) in scan_inputs() {
-        let chunks: Vec<Chunk> = text.chunks(CHUNK).map(Chunk::new).collect();
-        chunks.iter().for_each(|chunk| scans_agree(&mut lent, chunk));
-        row(&SCAN, input, least(&SCAN, &mut lent, &chunks, text.len()));
-    }
-    for (input, text) in write_inputs() {
-        let chunks: Vec<Chunk> = text.chunks(CHUNK).map(Chunk::new).collect();
-        chunks.iter().for_each(|chunk| writes_agree(&mut lent, chunk));
-        for leaf in &WRITES {
-            row(leaf, input, least(leaf, &mut lent, &chunks, text.len()));
-        }
-    }
-    println!("ns per number of the page");
-    let numbers = lent.page.len();
-    row(&PAGE, "real page", least(&PAGE, &mut lent, &[Chunk::new(&[])], numbers));
+    ExitCode::SUCCESS
 }
 
-/// Ends the program at the first character on which a sum or a written place differs. How many characters there are.
-fn agree(lent: &mut Lent) -> usize {
+/// Ends the program at the first character on which the sides differ. How many characters there are.
+fn every_character(lent: &mut Lent) -> usize {
     let mut count = 0;
     for c in '\0'..=char::MAX {
-        let chunk = Chunk::new(&[c]);
-        for leaf in &LEAVES {
-            assert_eq!((leaf.ours)(lent, &chunk), (leaf.rust)(lent, &chunk), "{} of {c:?}", leaf.name);
+        let chunk = &mut Chunk::new(&[c]);
+        for leaf in LEAVES.iter().chain([&SCAN, &EXPORTED_SCAN]).chain(&WRITES) {
+            leaf.agree(lent, chunk);
         }
-        assert_eq!(lent.ours[..3], lent.rust[..3], "isolate of {c:?}");
-        scans_agree(lent, &chunk);
-        writes_agree(lent, &chunk);
         count += 1;
     }
     count
 }
 
-/// ns for one item, ours and the Rust's: of each chunk the least of the rounds, in which the two take turns.
-fn least(leaf: &Leaf, lent: &mut Lent, chunks: &[Chunk], items: usize) -> [f64; 2] {
-    let mut total = [0.0; 2];
-    for chunk in chunks {
-        let mut best = [f64::MAX; 2];
-        for _ in 0..ROUNDS {
-            let (ours, our_time) = timed(leaf.ours, lent, chunk);
-            let (rust, rust_time) = timed(leaf.rust, lent, chunk);
-            assert_eq!(ours, rust, "{}", leaf.name);
-            best = [best[0].min(our_time), best[1].min(rust_time)];
+/// ns per character.
+fn of_characters(lent: &mut Lent) {
+    heading(&format!("ns per character, chunks of {}", grouped(CHUNK)));
+    for leaf in LEAVES.iter().chain([&SCAN, &EXPORTED_SCAN]) {
+        for input in &INPUTS {
+            let text = (input.text)(CHUNK * CHUNKS);
+            row(leaf.name, input.name, per_character(leaf, lent, &text, CHUNK));
         }
-        assert_eq!(lent.ours, lent.rust, "what {} wrote", leaf.name);
-        total = [total[0] + best[0], total[1] + best[1]];
     }
-    total.map(|ns| ns / items as f64)
+    for leaf in &WRITES {
+        for input in &INPUTS {
+            let text = writable((input.text)(CHUNK * CHUNKS));
+            row(leaf.name, input.name.trim_end_matches(" CRLF"), per_character(leaf, lent, &text, CHUNK));
+        }
+    }
+    for size in SMALL {
+        heading(&format!("ns per character, chunks of {size}"));
+        for input in &INPUTS {
+            let text = (input.text)(CHUNK * CHUNKS);
+            row(SCAN.name, input.name, per_character(&SCAN, lent, &text, size));
+        }
+    }
 }
 
-/// The sum, and the ns that it took.
-fn timed(side: Side, lent: &mut Lent, chunk: &Chunk) -> (usize, f64) {
-    let start = Instant::now();
-    let sum = black_box(side(lent, black_box(chunk)));
-    (sum, start.elapsed().as_nanos() as f64)
+/// ns for one character of a text that is cut into chunks of a size.
+fn per_character(leaf: &Leaf, lent: &mut Lent, text: &[char], size: usize) -> Times {
+    let cut = |part: &[char]| part.chunks(size).map(Chunk::new).collect();
+    let mut groups: Vec<Vec<Chunk>> = text.chunks(CHUNK).map(cut).collect();
+    groups.iter_mut().flatten().for_each(|chunk| leaf.agree(lent, chunk));
+    least(leaf, lent, &mut groups).map(|ns| ns / text.len() as f64)
 }
 
-fn row(leaf: &Leaf, input: &str, [ours, rust]: [f64; 2]) {
-    println!("{:22} {input:10} {ours:8.2} {rust:8.2} {:6.2}", leaf.name, ours / rust);
+/// ns per call: what a call costs beside its characters.
+fn of_calls(lent: &mut Lent) {
+    heading("ns per call");
+    for (name, text) in [("empty chunk", &[][..]), ("one character", &['a'])] {
+        for leaf in [&SCAN, &EXPORTED_SCAN, &ISOLATE] {
+            row(leaf.name, name, per_call(leaf, lent, text));
+        }
+    }
+    row(PAGE.name, "real page", per_call(&PAGE, lent, &[]));
+}
+
+fn per_call(leaf: &Leaf, lent: &mut Lent, text: &[char]) -> Times {
+    let mut chunks: Vec<Chunk> = (0..CALLS).map(|_| Chunk::new(text)).collect();
+    chunks.iter_mut().for_each(|chunk| leaf.agree(lent, chunk));
+    least(leaf, lent, &mut [chunks]).map(|ns| ns / CALLS as f64)
+}
+
+fn heading(unit: &str) {
+    println!("\n{unit:36} {:>8} {:>8} {:>6}", "ours", "Rust", "ratio");
+}
+
+fn row(name: &str, input: &str, [ours, rust]: Times) {
+    println!("{name:22} {input:13} {ours:8.3} {rust:8.3} {:6.2}", ours / rust);
+}
+
+/// A number with commas between its thousands.
+fn grouped(number: usize) -> String {
+    let digits = number.to_string();
+    let threes: Vec<&str> =
+        digits.as_bytes().rchunks(3).rev().filter_map(|three| std::str::from_utf8(three).ok()).collect();
+    threes.join(",")
 }

@@ -57,6 +57,8 @@ mod linked {
         pub fn bench_page(page: *const u32, size: usize) -> bool;
         /// How many bytes the longest valid prefix has.
         pub fn bench_prefix(bytes: *const u8, count: usize) -> usize;
+        /// Writes the characters of that prefix to the places from `out` on, which nothing else has: how many.
+        pub fn bench_decode(bytes: *const u8, count: usize, out: *mut u32, room: usize) -> usize;
     }
 }
 
@@ -116,4 +118,8 @@ pub fn page(page: &[u32]) -> bool {
 
 pub fn prefix(bytes: &[u8]) -> usize {
     unsafe { linked::bench_prefix(bytes.as_ptr(), bytes.len()) }
+}
+
+pub fn decode(bytes: &[u8], out: &mut [u32]) -> usize {
+    unsafe { linked::bench_decode(bytes.as_ptr(), bytes.len(), out.as_mut_ptr(), out.len()) }
 }

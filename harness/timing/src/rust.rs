@@ -1,5 +1,6 @@
 //! The same sums by the Rust: the original's functions and the standard library's.
 
+use harness::leaves::valid_prefix;
 use harness::page::Page;
 use harness::{check_basic_text_char, is_basic_text_end, is_basic_text_start, PreNormalization};
 use std::collections::VecDeque;
@@ -37,4 +38,14 @@ pub fn page(page: &[u32]) -> bool {
 
 pub fn prefix(bytes: &[u8]) -> usize {
     std::str::from_utf8(bytes).map_or_else(|error| error.valid_up_to(), str::len)
+}
+
+pub fn decode(bytes: &[u8], out: &mut [u32]) -> usize {
+    let text = std::str::from_utf8(bytes).unwrap_or_else(|_| valid_prefix(bytes));
+    let mut count = 0;
+    for (place, c) in out.iter_mut().zip(text.chars()) {
+        *place = u32::from(c);
+        count += 1;
+    }
+    count
 }
