@@ -118,12 +118,12 @@ fn gap_of(c: u32) -> Range
     }
 }
 
-// The gap to look in after c, which is none of this one's and no part of a stretch. Inner: asks for a gap.
+// The gap to look in after c, which is none of this one's and no part of a stretch. No gap begins behind 2F7FF. Inner: asks for a gap.
 pub fn next_gap(gap: Range, c: u32) -> Range
     requires { ⌜ Gap gap ⌝ }
     ensures { λ r. ⌜ Gap r ⌝ }
 {
-    if c < 0xa0 {
+    if (c < 0xa0) | (0x2f7ff < c) {
         return gap;
     }
     gap_of(c)
