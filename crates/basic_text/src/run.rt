@@ -1,4 +1,5 @@
-// A run of characters, read from bytes and written to bytes, piece by piece: each piece is a run of the crate `text_input`.
+// A run of characters, read from bytes and written to bytes, piece by piece: each piece, a part of the chunk and none of document 01's
+// pieces, is a run of the crate `text_input`.
 use super::numbers::read_number;
 use super::numbers::read_numbers;
 use super::numbers::write_numbers;

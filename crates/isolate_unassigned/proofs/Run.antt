@@ -3,16 +3,16 @@
 --     Going                     what holds at the head of the loop
 --     begin                     at the start, where there is room for the whole
 --     left                      there is room for what is left
---     again                     after a stretch of the run
+--     again                     after `advance`
 --     fits-last                 there is room for the 34F that is owed
 --     ended, ended-owed         after the last character the whole is stored, once the 34F that is owed is
-use Prim.Native.Nat.{ℕ, suc, _+_, _≤_, _<_}
+use Prim.Native.Nat.{ℕ, _+_, _≤_, _<_}
 use mathlib.Core.Path.{_≡_, refl, sym, ap, _∙_}
 use mathlib.Core.Bool.{true, false}
-use mathlib.Core.List.{List, [], _∷_, _++_}
+use mathlib.Core.List.{List, [], _++_}
 use native.Mathlib.Nat.{zero-add}
 use native.Mathlib.Omega.{arith}
-use lib.ListN.{length, getD, drop, set, length-set, length-append}
+use lib.ListN.{length, drop, set, length-append}
 use lib.Seq.{sets, sets-eq, length-sets, drop-length}
 use Rattle.isolate_unassigned.specs.declared.IsolateUnassigned.{IsolateUnassigned}
 use Rattle.isolate_unassigned.specs.declared.Moved.{Moved}

@@ -1,14 +1,14 @@
 -- A stretch of assigned characters where nothing is owed: each is given out as it is, and only the last one sets the record.
 -- Assumes nothing.
 --     either-assigned              what is in one of two ranges of assigned characters is assigned
---     known                        whether a character is to be isolated, by the ranges at hand
+--     found                        whether a character is assigned, by the ranges at hand
 --     keep-step                    one assigned character, where nothing is owed
 --     keeps-gives, keeps-leads     a run of them
 --     isolated-append              a run in two parts
 --     kept-room, kept-moves        `advance` over a stretch
 --     turn-room, turn-moves        and over one character
 use Prim.Native.Nat.{ℕ, suc, _+_, _-_, _≤_, _<_}
-use mathlib.Core.Bool.{Bool, true, false, not, _||_}
+use mathlib.Core.Bool.{true, false}
 use mathlib.Core.List.{List, [], _∷_, _++_, append-nil, append-assoc}
 use mathlib.Core.Logic.{⊎-elim}
 use mathlib.Core.Path.{_≡_, refl, sym, ap, _∙_}
@@ -24,10 +24,9 @@ use Rattle.stretch.specs.declared.Sought.{Sought}
 use Rattle.stretch.specs.Stretch.{inSought, eitherOf, part}
 use Rattle.stretch.proofs.Seeking.{none-in-gap}
 use Rattle.stretch.proofs.Parts.{cut, part-length, part-at, part-one}
-use Rattle.text_utils.specs.Classes.{isPrivateUse}
 use Rattle.isolate_unassigned.specs.declared.IsolateUnassigned.{IsolateUnassigned}
 use Rattle.isolate_unassigned.specs.declared.Isolated.{Isolated}
-use Rattle.isolate_unassigned.specs.declared.Isolated.the-variants.{One, Two}
+use Rattle.isolate_unassigned.specs.declared.Isolated.the-variants.{One}
 use Rattle.isolate_unassigned.specs.Isolate.{toIsolate, isolatorOf, isolateStepOf, givesOut, after, isolatedFrom}
 use Rattle.isolate_unassigned.specs.Inner.{gives, leads, Nearer, Keeps, Moves}
 
@@ -36,13 +35,9 @@ module _ (p : List ℕ) (base near : Range) (a : Assigned p base) (b : Assigned 
   either-assigned h =
       ⊎-elim (λ t. ⊎-elim (λ u. a c u) (λ u. b c u) (or-cases _ _ t)) (λ t. never (sym (none-in-gap c) ∙ t)) (or-cases _ _ h)
 
--- the base and the range that `nearer` answers tell whether c is to be isolated
-pub known : (p : List ℕ) (base near : Range) (c : ℕ) → Nearer p base c near → (q : Sought) → q ≡ eitherOf base near → (a u : Bool) →
-    a ≡ inSought q c → u ≡ isPrivateUse c → not (a || u) ≡ toIsolate p c
-unfolding toIsolate
-known p base near c n q e a u f g =
-    let h : a ≡ assigned p c = f ∙ ap (λ (x : Sought). inSought x c) e ∙ n .tells in
-    rw (h, g)
+-- the base and the range that `nearer` answers tell whether c is assigned
+pub found : (p : List ℕ) (base near : Range) (c : ℕ) → Nearer p base c near → (q : Sought) → q ≡ eitherOf base near → inSought q c ≡ assigned p c
+found p base near c n q e = ap (λ (x : Sought). inSought x c) e ∙ n .tells
 
 module _ (p : List ℕ) where
   pub keep-step : (r : IsolateUnassigned) (c : ℕ) → r .«need_cgj» ≡ false → assigned p c ≡ true →

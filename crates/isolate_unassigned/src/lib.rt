@@ -1,6 +1,7 @@
 // Isolation of unassigned characters: ports `internals/src/isolate_unassigned.rs`.
 // The iterator becomes a record by value whose step answers all that it gives out for one character, so `deferred` is gone; what
-// the iterator gives after the last character is `finish`.
+// the iterator gives after the last character is `finish`. A run goes by stretches of assigned characters that are copied (crate
+// `stretch`), and by a step for any other character.
 use page::assigned_range;
 use page::is_accepted;
 use page::is_assigned;
@@ -19,7 +20,7 @@ ghost use Prim.Native.Nat.{ℕ, _+_, _≤_, _<_};
 ghost use lib.ListN.{length, drop};
 ghost use lib.Seq.{sets};
 ghost use Rattle.unicode.specs.Chars.{filled};
-ghost use Rattle.page.specs.Page.{accepted};
+ghost use Rattle.page.specs.Page.{accepted, assigned};
 ghost use Rattle.page.specs.Inner.{Assigned};
 ghost use Rattle.isolate_unassigned.specs.Isolate.{toIsolate, fresh, isolateStepOf, givesOut, after, isolatedFrom, placesForRun, isolateOf, writtenNumbers, isolateAnswer, isolatePlaces};
 ghost use Rattle.isolate_unassigned.specs.Inner.{Nearer, Keeps, Moves};
@@ -38,12 +39,11 @@ pub enum Isolated {
     Two(u32, u32, IsolateUnassigned),
 }
 
-// Whether c is unassigned and outside private use. Inner: asks for an accepted page.
-fn is_unassigned(page: &[u32], c: u32) -> bool
-    requires { ⌜ accepted (now page) ≡ true ⌝ }
-    ensures { λ r. ⌜ r ≡ toIsolate (now (page .entry)) c ⌝ }
+// Whether c is unassigned and outside private use, by whether it was found assigned. Total.
+fn is_isolated(found: bool, c: u32) -> bool
+    ensures { λ r. ⌜ ((p : List ℕ) → found ≡ assigned p c → r ≡ toIsolate p c) ⌝ }
 {
-    !(is_assigned(page, c) | is_private_use_area(c))
+    !(found | is_private_use_area(c))
 }
 
 impl IsolateUnassigned {
@@ -87,7 +87,7 @@ impl IsolateUnassigned {
         requires { ⌜ accepted (now page) ≡ true ⌝ }
         ensures { λ r. ⌜ r ≡ isolateStepOf (now (page .entry)) self c ⌝ }
     {
-        self.step_by(is_unassigned(page, c), c)
+        self.step_by(is_isolated(is_assigned(page, c), c), c)
     }
 
     // Whether one more 34F ends the run, `next` of the Rust with no character. Total.
@@ -123,9 +123,9 @@ struct Turned {
 // Stores what a step gives out from place k on. Inner: asks for room.
 fn put_step(step: Isolated, out: &mut [u32], k: usize) -> Turned
     requires { ⌜ k + length (givesOut step) ≤ length (now out) ⌝ }
-    ensures { λ r. ⌜ r .written ≡ k + length (givesOut step) ⌝ }
-    ensures { λ r. ⌜ r .next ≡ after step ⌝ }
-    ensures { λ r. ⌜ now (out .exit) ≡ sets (now (out .entry)) k (givesOut step) ⌝ }
+    ensures written { λ r. ⌜ r .written ≡ k + length (givesOut step) ⌝ }
+    ensures next { λ r. ⌜ r .next ≡ after step ⌝ }
+    ensures places { λ r. ⌜ now (out .exit) ≡ sets (now (out .entry)) k (givesOut step) ⌝ }
 {
     match step {
         Isolated::One(c, next) => {
@@ -218,7 +218,7 @@ impl IsolateUnassigned {
                 near: close,
             }
         } else {
-            let unassigned = !(is_sought(either(base, close), c) | is_private_use_area(c));
+            let unassigned = is_isolated(is_sought(either(base, close), c), c);
             let step = self.step_by(unassigned, c);
             let turned = put_step(step, out, k);
             let next = turned.next;

@@ -11,6 +11,10 @@ use Rattle.ranges.specs.Ranges.{member}
 unfoldable pub inRange : Range → ℕ → Bool
 inRange r c = leb (r .first) c && leb c (r .last)
 
+-- the range that has no number
+abbrev pub noRange : Range
+noRange = record { first = 1; last = 0 }
+
 -- what a search for c finds: a range all of which are members, and which has c where c is a member
 pub record Found (firsts lasts : List ℕ) (c : ℕ) (r : Range) : Type 0 where
   pub members : (x : ℕ) → inRange r x ≡ true → member firsts lasts x ≡ true

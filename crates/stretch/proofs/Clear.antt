@@ -1,15 +1,15 @@
 -- A gap's characters are plain: no row of the replacements and of the refusals, and no line end, page character or ESC, meets it. That is
 -- one test, which antt computes for each gap. Assumes nothing.
---     gap-clear       the characters of a range that passes the test are plain
---     ascii-kept      so are tab and 20..7E
---     sought-kept     what is sought beside ASCII in a gap is a newline or plain
+--     clear           the test
+--     gap-clear       the characters of a range that passes it are plain
+--     sought-kept     ASCII and what a gap has is a newline or plain
 use Prim.Native.Nat.{ℕ, _≤_, _<_}
-use mathlib.Core.Path.{_≡_, refl, sym, _∙_}
-use mathlib.Core.Bool.{Bool, true, false, not, _&&_, _||_}
+use mathlib.Core.Path.{_≡_, refl}
+use mathlib.Core.Bool.{Bool, true, false, _&&_, _||_}
 use mathlib.Core.List.{List, [], _∷_}
 use mathlib.Core.Logic.{⊎-elim}
 use native.Mathlib.Omega.{arith}
-use lib.Dec.{leb, ltb, eqb}
+use lib.Dec.{ltb, eqb}
 use borrow.Author.Tests.{ltb-true, leb-true, eqb-true, eqb-false, not-true, ne-eqb}
 use Rattle.unicode.proofs.Kit.{by, both, both-true, or-cases}
 use Rattle.ranges.specs.declared.Range.{Range}
@@ -20,7 +20,7 @@ use Rattle.replace.specs.Table.{Span, _to_, Row, _gives_, has, inSpans, lookup}
 use Rattle.replace.specs.Replace.{replacements, replaceOf}
 use Rattle.check_char.specs.Check.{refusals, reasonOf}
 use Rattle.stretch.specs.Stretch.{inGap, inSought}
-use Rattle.stretch.specs.Plain.{turned, Plain, Kept, Gap, asciiOr}
+use Rattle.stretch.specs.Plain.{special, Kept, Gap, asciiOr}
 
 -- ---- the test
 module _ (r : Range) where
@@ -37,7 +37,7 @@ module _ (r : Range) where
   spansApart (s ∷ ss) = apart s && spansApart ss
 
   abbrev pub clear : Bool
-  clear = rowsApart replacements && (rowsApart refusals && spansApart turned)
+  clear = rowsApart replacements && (rowsApart refusals && spansApart special)
 
 -- ---- what it says of a character
 module _ (r : Range) (c : ℕ) (h : inGap r c ≡ true) where
@@ -85,7 +85,7 @@ gap-clear r t c h =
     record {
       same = finds-none r c h (One c) replacements (x .0);
       accepted = finds-none r c h 0 refusals (y .0);
-      other = in-none r c h turned (y .1);
+      other = in-none r c h special (y .1);
     }
 
 -- ---- ASCII, as two gaps
@@ -96,7 +96,7 @@ module _ (c : ℕ) where
       let i = in-range r c h in
       both (both h (rw (ne-eqb c 0x149 (λ e. omega arith)))) (rw (ne-eqb c 0x673 (λ e. omega arith)))
 
-  pub ascii-kept : inRange (record { first = 9; last = 0xa }) c || inRange (record { first = 0x20; last = 0x7e }) c ≡ true → Kept c
+  ascii-kept : inRange (record { first = 9; last = 0xa }) c || inRange (record { first = 0x20; last = 0x7e }) c ≡ true → Kept c
   unfolding inRange
   ascii-kept h n =
       ⊎-elim

@@ -7,7 +7,7 @@ use Prim.Native.Nat.{ℕ, _+_, _-_, _≤_, _<_}
 use mathlib.Core.List.{List, [], _∷_, _++_}
 use mathlib.Core.Path.{_≡_, sym, ap, _∙_}
 use native.Mathlib.Omega.{arith}
-use lib.ListN.{length, take, drop, getD, length-take, length-drop, take-append-drop}
+use lib.ListN.{length, drop, getD, length-take, length-drop, take-append-drop}
 use lib.Seq.{drop-cons, getD-take, getD-drop, drop-drop}
 use Rattle.stretch.specs.Stretch.{part}
 

@@ -1,24 +1,28 @@
 -- What is sought, and stretches of it. Assumes nothing.
---     none-in-gap          an empty range has no gap
+--     none-in-gap          the empty range, as a gap, has no character
 --     ascii-within         ASCII alone, in ASCII and a gap
 --     first-within         the first of two ranges, in both
+--     nothing              an empty stretch
 --     one-more             a stretch and places behind it
 --     four                 four stretches one behind the other, the second of what is likeliest
-use Prim.Native.Nat.{ℕ, _≤_, _<_}
+use Prim.Native.Nat.{ℕ, _≤_}
 use mathlib.Core.Path.{_≡_, refl, sym, _∙_}
-use mathlib.Core.Bool.{Bool, true, false, not, _&&_, _||_, or-true}
+use mathlib.Core.Bool.{Bool, true, false, _||_, or-true}
 use mathlib.Core.List.{List}
 use native.Mathlib.Omega.{arith}
-use lib.Dec.{eqb}
 use lib.ListN.{length, getD}
 use Rattle.unicode.proofs.Kit.{never}
 use Rattle.ranges.specs.declared.Range.{Range}
-use Rattle.ranges.specs.Inner.{inRange}
+use Rattle.ranges.specs.Inner.{noRange, inRange}
 use Rattle.ranges.proofs.Found.{empty}
 use Rattle.stretch.specs.declared.Sought.{Sought}
-use Rattle.stretch.specs.Stretch.{inGap, inSought, Within, noRange, eitherOf, Each, Stretch}
+use Rattle.stretch.specs.Stretch.{inGap, inSought, eitherOf, Each, Stretch}
 use Rattle.stretch.specs.Plain.{asciiOr}
-use Rattle.stretch.proofs.Places.{joined}
+use Rattle.unicode.proofs.Places.{none, joined}
+
+-- all that q seeks, r seeks
+abbrev Within : Sought → Sought → Type 0
+Within q r = (c : ℕ) → inSought q c ≡ true → inSought r c ≡ true
 
 pub none-in-gap : (c : ℕ) → inGap noRange c ≡ false
 unfolding inGap
@@ -42,6 +46,9 @@ pub first-within : (one two : Range) → Within (eitherOf one noRange) (eitherOf
 first-within one two c h = other-middle (inRange one c) _ _ _ (empty c) h
 
 module _ (q : Sought) (s : List ℕ) where
+  pub nothing : (f : ℕ) → f ≤ length s → Stretch q s f f
+  nothing f l = record { on = omega arith; low = l; each = none _ _ f (omega arith) }
+
   behind : (f m t : ℕ) → Stretch q s f m → Stretch q s m t → Stretch q s f t
   behind f m t a b =
       record {

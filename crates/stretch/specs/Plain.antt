@@ -14,14 +14,14 @@ use Rattle.stretch.specs.Stretch.{inGap}
 
 -- line ends, whatever the options, the page character and ESC: what the scanner's ground state does not take as another character
 -- (document 01, "Pieces of a text")
-abbrev pub turned : List Span
-turned = one 0xa ∷ 0xc to 0xd ∷ one 0x1b ∷ one 0x85 ∷ 0x2028 to 0x2029 ∷ []
+abbrev pub special : List Span
+special = one 0xa ∷ 0xc to 0xd ∷ one 0x1b ∷ one 0x85 ∷ 0x2028 to 0x2029 ∷ []
 
 -- its own replacement, accepted by the check, and no line end, page character or ESC
 pub record Plain (c : ℕ) : Type 0 where
   pub same : replaceOf c ≡ One c
   pub accepted : reasonOf c ≡ 0
-  pub other : inSpans turned c ≡ false
+  pub other : inSpans special c ≡ false
 
 -- a newline, or plain: what comes out of the ground state as it goes in
 abbrev pub Kept : ℕ → Type 0

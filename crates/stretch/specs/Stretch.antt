@@ -6,7 +6,7 @@ use mathlib.Core.List.{List}
 use lib.Dec.{eqb}
 use lib.ListN.{length, getD, take, drop}
 use Rattle.ranges.specs.declared.Range.{Range}
-use Rattle.ranges.specs.Inner.{inRange}
+use Rattle.ranges.specs.Inner.{noRange, inRange}
 use Rattle.stretch.specs.declared.Sought.{Sought}
 
 -- c is in the range, and not 149 or 673
@@ -16,14 +16,6 @@ inGap r c = (inRange r c && not (eqb c 0x149)) && not (eqb c 0x673)
 -- c is in one of the two ranges, or in the gap
 abbrev pub inSought : Sought → ℕ → Bool
 inSought q c = (inRange (q .one) c || inRange (q .two) c) || inGap (q .gap) c
-
--- all that q seeks, r seeks
-abbrev pub Within : Sought → Sought → Type 0
-Within q r = (c : ℕ) → inSought q c ≡ true → inSought r c ≡ true
-
--- an empty range
-abbrev pub noRange : Range
-noRange = record { first = 1; last = 0 }
 
 -- one range or another
 abbrev pub eitherOf : Range → Range → Sought

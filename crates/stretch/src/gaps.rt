@@ -1,5 +1,5 @@
 // Gaps: ranges in which every character is plain, but 149 and 673. With these two left out Latin to Bengali is one gap, where it would
-// be three; Czech, Polish or Persian text would change between them at every third letter.
+// be three, and Czech, Polish or Persian text would change between them within words.
 use ranges::Range;
 ghost use Rattle.stretch.specs.Plain.{Gap};
 
@@ -118,7 +118,8 @@ fn gap_of(c: u32) -> Range
     }
 }
 
-// The gap to look in after c, which is none of this one's and no part of a stretch. No gap begins behind 2F7FF. Inner: asks for a gap.
+// The gap to look in after a step over c: the one that has c, the first where none has; and this one below A0 and past 2F7FF, where
+// no gap is. Inner: asks for a gap.
 pub fn next_gap(gap: Range, c: u32) -> Range
     requires { ⌜ Gap gap ⌝ }
     ensures { λ r. ⌜ Gap r ⌝ }

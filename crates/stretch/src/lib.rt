@@ -1,7 +1,6 @@
 // Stretches: runs of characters that come out as they go in, most of any text. The end of one is found by blocks of 16, and all of it is
 // copied at once, where a step for each character would cost many times as much. Not in the Rust. All of it is inner.
-// A stretch need not be the longest, so neither the size of a block nor the ranges that a caller looks in are in a contract: a wrong
-// guess costs time.
+// No contract says that a stretch is the longest: where a block ends, and which ranges a caller guesses, is a matter of time alone.
 //     gaps.rt    ranges of plain characters
 //     lib.rt     the end of a stretch, and its copy
 mod gaps;
@@ -10,26 +9,20 @@ pub use gaps::first_gap;
 pub use gaps::next_gap;
 use ranges::Range;
 use ranges::in_range;
+use ranges::no_range;
 ghost use mathlib.Core.Path.{_≡_};
 ghost use mathlib.Core.Bool.{true};
 ghost use Prim.Native.Nat.{_+_, _≤_};
 ghost use lib.ListN.{length};
 ghost use lib.Seq.{sets};
 ghost use Rattle.stretch.specs.Plain.{asciiOr};
-ghost use Rattle.stretch.specs.Stretch.{inSought, noRange, eitherOf, Each, Stretch};
+ghost use Rattle.stretch.specs.Stretch.{inSought, eitherOf, Each, Stretch};
 
 // What a stretch is made of: the numbers of two ranges, and those of a third one but 149 and 673.
 pub struct Sought {
     pub one: Range,
     pub two: Range,
     pub gap: Range,
-}
-
-// No number.
-fn no_range() -> Range
-    ensures { λ r. ⌜ r ≡ noRange ⌝ }
-{
-    Range { first: 1, last: 0 }
 }
 
 // Tab, newline, 20 to 7E, and a gap.
@@ -98,6 +91,7 @@ fn blocks(s: &[u32], from: usize, sought: Sought) -> usize
     i
 }
 
+// The lesser of the two; the contract says no more than is asked.
 fn lesser(a: usize, b: usize) -> usize
     ensures { λ r. ⌜ r ≤ a ⌝ }
 {

@@ -3,14 +3,14 @@
 --     Going     what holds at the head of the loop
 --     begin     at the start, where there is room for the whole
 --     left      there is room for what is left
---     again     after a stretch of the chunk
+--     again     after `advance`
 --     ended     after the last character
 use mathlib.Core.Path.{_≡_, refl, sym, ap, _∙_}
-use mathlib.Core.List.{List, [], _∷_, _++_}
-use Prim.Native.Nat.{ℕ, suc, _+_, _≤_, _<_}
+use mathlib.Core.List.{List, [], _++_}
+use Prim.Native.Nat.{ℕ, _+_, _≤_}
 use native.Mathlib.Nat.{zero-add}
 use native.Mathlib.Omega.{arith}
-use lib.ListN.{length, getD, drop, length-append}
+use lib.ListN.{length, drop, length-append}
 use lib.Seq.{sets, length-sets, drop-length}
 use Rattle.unicode.specs.Chars.{filled}
 use Rattle.ranges.specs.declared.Range.{Range}

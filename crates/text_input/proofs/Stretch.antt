@@ -3,12 +3,11 @@
 -- Assumes nothing.
 --     keep-step                  one such character
 --     keeps-outs, keeps-ends     a run of them
---     kept-outs, kept-ends       a stretch that `Keeps` tells of
 --     kept-room, kept-moves      `advance` over such a stretch
 --     turn-room, turn-moves      and over one character
 use Prim.Native.Nat.{ℕ, suc, _+_, _-_, _≤_, _<_}
-use mathlib.Core.Bool.{Bool, true, false, not, _&&_, true≢false}
-use mathlib.Core.List.{List, [], _∷_, _++_, append-nil}
+use mathlib.Core.Bool.{Bool, true, false, true≢false}
+use mathlib.Core.List.{List, [], _∷_, append-nil}
 use mathlib.Core.Path.{_≡_, refl, sym, ap, _∙_}
 use native.Mathlib.Omega.{arith}
 use lib.Dec.{eqb}
@@ -20,7 +19,7 @@ use Rattle.replace.specs.Table.{inSpans}
 use Rattle.unicode.proofs.Kit.{both-true}
 use Rattle.ranges.specs.declared.Range.{Range}
 use Rattle.stretch.specs.Stretch.{part}
-use Rattle.stretch.specs.Plain.{turned, Kept, Gap}
+use Rattle.stretch.specs.Plain.{special, Kept, Gap}
 use Rattle.stretch.proofs.Parts.{cut, part-length, part-at, part-one}
 use Rattle.text_input.specs.declared.State.{State}
 use Rattle.text_input.specs.declared.State.the-variants.{Ground, Cr, Ff, Esc, CsiStart, Csi, Osc, Linux}
@@ -49,9 +48,9 @@ leave-ground Csi c h = search h
 leave-ground Osc c h = search h
 leave-ground Linux c h = search h
 
--- none of the characters that are turned on
-module _ (c : ℕ) (h : inSpans turned c ≡ false) where
-  differs : (k : ℕ) → inSpans turned k ≡ true → eqb c k ≡ false
+-- no line end, page character or ESC
+module _ (c : ℕ) (h : inSpans special c ≡ false) where
+  differs : (k : ℕ) → inSpans special k ≡ true → eqb c k ≡ false
   differs k t = ne-eqb c k (λ e. true≢false (sym t ∙ (rw e at h)))
 
   meet-other : (o : Options) → meetOf o c ≡ Other
@@ -113,10 +112,10 @@ module _ (p : List ℕ) (o : Options) (r : TextInput) (chunk : List ℕ) (i j : 
       let h : x < j - i = omega (arith, n) in
       rw (part-at chunk i j (k .from) x h) (k .kept (i + x) (omega arith) (omega arith))
 
-  pub kept-outs : outs p o r (part i j chunk) ≡ part i j chunk
+  kept-outs : outs p o r (part i j chunk) ≡ part i j chunk
   kept-outs = keeps-outs p o (part i j chunk) r (k .ready more) each
 
-  pub kept-ends : ends p o r (part i j chunk) ≡ passedBy r (getD chunk (j - 1) 0)
+  kept-ends : ends p o r (part i j chunk) ≡ passedBy r (getD chunk (j - 1) 0)
   kept-ends =
       let n = part-length chunk i j (k .from) (k .low) in
       let e : i + (j - i - 1) ≡ j - 1 = omega arith in

@@ -1,4 +1,4 @@
--- What the private functions of src/lib.rt answer that take more than one character at a time. No entry's contract cites this file.
+-- What the private functions of src/lib.rt that go by stretches answer. No entry's contract cites this file.
 -- Assumes nothing.
 use Prim.Native.Nat.{ℕ, _+_, _≤_, _<_}
 use mathlib.Core.Bool.{Bool, true, false, not, _&&_}

@@ -1,6 +1,7 @@
 // The scanner: ports text_input.rs. A chunk of characters comes in and its cleaned characters go to the queue (`scan`), and a stream
 // ends or is pushed (`finish`). The queue is a lent slice: each call writes from its first place on. The record is a value: each call
-// takes one and answers the one after it. Filling bytes from the queue is the crate `text_fill`.
+// takes one and answers the one after it. A chunk goes by stretches that are copied (crate `stretch`), and by a step for any other
+// character. Filling bytes from the queue is the crate `text_fill`.
 //     step.rt    one character in one state: `process_raw_string` without its loop
 //     queue.rt   storing what a step or a finish appends
 mod queue;

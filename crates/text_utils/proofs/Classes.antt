@@ -1,12 +1,13 @@
 -- The classes at the characters on which all above them rests. Assumes nothing.
 --     one-char             being a character, as a range of one
 --     start-low            below 300 a start is a starter
---     end-clear            in a span that no table meets every character but 200D is an end: one test, which antt computes
+--     endsClear            no table that an end is tested by meets a span
+--     end-clear            in such a span every character but 200D is an end: one test, which antt computes
 --     start-newline ..     on every accepted page 0A, 20 and 34F are starts
 --     end-newline ..       0A, 20 and 34F are ends
 --     class-back           an answer read back from its numbers: no two answers list alike
-use mathlib.Core.Path.{_≡_, refl, sym, _∙_}
-use mathlib.Core.Bool.{Bool, true, false, not, _&&_, _||_, and-true, and-false}
+use mathlib.Core.Path.{_≡_, refl}
+use mathlib.Core.Bool.{Bool, true, false, not, _&&_, and-true}
 use mathlib.Core.List.{List, [], _∷_}
 use Prim.Native.Nat.{ℕ, _≤_, _<_}
 use native.Mathlib.Omega.{arith}
@@ -15,11 +16,11 @@ use borrow.Author.Tests.{eq-eqb, ne-eqb, le-leb, lt-leb}
 use Rattle.unicode.proofs.Kit.{by-lt, both-true}
 use Rattle.ranges.specs.Ranges.{member, firstsOf, lastsOf}
 use Rattle.ranges.proofs.Laws.{member-below, clears, member-clear}
-use Rattle.page.specs.Page.{accepted, nonstarter}
+use Rattle.page.specs.Page.{accepted}
 use Rattle.page.proofs.PageLaws.{facts-of-accepted}
 use Rattle.text_utils.specs.declared.Class.{Class}
 use Rattle.text_utils.specs.declared.Class.the-variants.{Is, Refused}
-use Rattle.text_utils.specs.Tables.{graphemeExtend, emojiModifier, spacingMark, spacingMarkExceptions, consonantPrecedingRepha, consonantPrefixed, prependedConcatenationMark}
+use Rattle.text_utils.specs.Tables.{consonantPrecedingRepha, consonantPrefixed, prependedConcatenationMark}
 use Rattle.text_utils.specs.Classes.{listed, starter, graphemeExtendNotCgj, spacingMarkPlus, basicTextStart, basicTextEnd, classNumbers}
 use Rattle.text_utils.proofs.Rising.{high-extend, high-emoji, high-spacing}
 

@@ -49,6 +49,10 @@ pub consonant-prefixed-rises : rises 0 (firstsOf consonantPrefixed) (lastsOf con
 unfolding rises
 consonant-prefixed-rises = refl
 
+prepended-rises : rises 0 (firstsOf prependedConcatenationMark) (lastsOf prependedConcatenationMark) ≡ true
+unfolding rises
+prepended-rises = refl
+
 pub private-use-rises : rises 0 (firstsOf privateUse) (lastsOf privateUse) ≡ true
 unfolding rises
 private-use-rises = refl
@@ -65,10 +69,6 @@ high-emoji = refl
 pub high-spacing : rises 0x300 (firstsOf spacingMark) (lastsOf spacingMark) ≡ true
 unfolding rises
 high-spacing = refl
-
-pub prepended-rises : rises 0 (firstsOf prependedConcatenationMark) (lastsOf prependedConcatenationMark) ≡ true
-unfolding rises
-prepended-rises = refl
 
 pub strictly :
     RisesStrictly (firstsOf no-cgj) (lastsOf no-cgj)

@@ -1,6 +1,5 @@
 -- A run of ASCII bytes is as many characters. Assumes nothing.
---     none, one, joined            runs of no byte, of one, and of two runs
---     to-here, to-more, to-both    the same for the place that a search comes to
+--     to-here, to-more, to-both    the place that a search comes to: none passed, some passed behind it, two searches
 --     over                         the loops of `valid_prefix` and `decode_utf8`, after a character and a run behind it
 use Prim.Native.Nat.{ℕ, zero, suc, _+_, _-_, _≤_, _<_}
 use mathlib.Core.Path.{_≡_, refl, sym, _∙_}
@@ -14,25 +13,16 @@ use borrow.Author.Tests.{lt-ltb}
 use Rattle.unicode.specs.declared.utf8.Utf8Step.the-variants.{Char}
 use Rattle.unicode.specs.Utf8.{utf8StepOf}
 use Rattle.unicode.specs.Inner.{Ascii, AsciiTo}
-use Rattle.unicode.proofs.Kit.{by-lt}
 use Rattle.unicode.proofs.Steps.{lead-step}
 use Rattle.unicode.proofs.Texts.{Decoding, decoding-again}
+use Rattle.unicode.proofs.Places.{none, joined}
 
 module _ (bs : List ℕ) (f : ℕ) where
-  pub none : (t : ℕ) → t ≤ f → Ascii bs f t
-  none t h x l g = absurd (omega arith)
-
-  pub one : (t : ℕ) → t ≡ f + 1 → getD bs f 0 < 0x80 → Ascii bs f t
-  one t h p x l g = let e : x ≡ f = omega arith in rw e p
-
-  pub joined : (m t : ℕ) → Ascii bs f m → Ascii bs m t → Ascii bs f t
-  joined m t h k x l g = by-lt x m (λ b. h x l b) (λ b. k x b g)
-
   pub to-here : (stop : ℕ) → f ≤ stop → AsciiTo bs f stop f
-  to-here stop l = record { begun = omega arith; low = l; each = none f (omega arith) }
+  to-here stop l = record { begun = omega arith; low = l; each = none (λ x. getD bs x 0 < 0x80) f f (omega arith) }
 
   pub to-more : (stop m t : ℕ) → AsciiTo bs f stop m → m ≤ t → t ≤ stop → Ascii bs m t → AsciiTo bs f stop t
-  to-more stop m t a o l h = record { begun = omega (arith, a .begun); low = l; each = joined m t (a .each) h }
+  to-more stop m t a o l h = record { begun = omega (arith, a .begun); low = l; each = joined (λ x. getD bs x 0 < 0x80) f m t (a .each) h }
 
   pub to-both : (stop m t : ℕ) → AsciiTo bs f stop m → AsciiTo bs m stop t → AsciiTo bs f stop t
   to-both stop m t a b = to-more stop m t a (b .begun) (b .low) (b .each)

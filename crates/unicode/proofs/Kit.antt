@@ -3,6 +3,7 @@
 --     split         a fact of a `cond` by its two cases
 --     never         what follows from a contradiction
 --     both-true     the parts of an `&&` that holds
+--     both          the other way
 --     or-cases      an `||` that holds, by its parts
 --     tests         `search tests` closes a return of an `if` chain whose definition is a chain of `cond` over the same tests
 use Prim.Native.Nat.{ℕ, _≤_, _<_}

@@ -5,5 +5,6 @@ pub mod Rows
 pub mod Steps
 pub mod Grammar
 pub mod Texts
+pub mod Places
 pub mod Ascii
 pub mod Examples

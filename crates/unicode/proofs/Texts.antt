@@ -6,6 +6,7 @@
 --     encode-decode            encoding what was decoded gives the bytes of the prefix
 --     length-decode            no more characters are decoded than there are places
 --     Decoding                 what holds at the head of the loops of `valid_prefix` and `decode_utf8`
+--     decoding-begin ..        at the start, after a character, and where the places, the characters or the bytes end
 use Prim.Native.Nat.{ℕ, zero, suc, _+_, _-_, _≤_, _<_}
 use mathlib.Core.Path.{_≡_, refl, sym, ap, _∙_}
 use mathlib.Core.Bool.{Bool, true, false, _&&_}

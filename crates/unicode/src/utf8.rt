@@ -187,6 +187,7 @@ pub fn valid_prefix(bytes: &[u8]) -> Prefix
     }
 }
 
+// The lesser of the two.
 fn lesser(a: usize, b: usize) -> usize
     ensures { λ r. ⌜ (r ≤ a) × (r ≤ b) ⌝ }
 {

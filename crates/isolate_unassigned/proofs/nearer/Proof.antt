@@ -5,11 +5,10 @@ use mathlib.Core.Path.{_≡_, refl, sym, ap, _∙_}
 use mathlib.Core.Bool.{Bool, true, false, _||_, or-false}
 use borrow.Author.Needs.{needs}
 use Rattle.ranges.specs.declared.Range.{Range}
-use Rattle.ranges.specs.Inner.{inRange}
-use Rattle.page.specs.Page.{assigned}
+use Rattle.ranges.specs.Inner.{noRange, inRange}
 use Rattle.page.specs.Inner.{Assigned, AssignedRange}
 use Rattle.stretch.specs.declared.Sought.{Sought}
-use Rattle.stretch.specs.Stretch.{inGap, inSought, noRange, eitherOf}
+use Rattle.stretch.specs.Stretch.{inGap, inSought, eitherOf}
 use Rattle.stretch.proofs.Seeking.{none-in-gap}
 use Rattle.isolate_unassigned.specs.Inner.{Nearer}
 use Rattle.isolate_unassigned.proofs.Stretch.{either-assigned}

@@ -9,7 +9,7 @@ use borrow.Author.Needs.{needs}
 use Rattle.unicode.proofs.Kit.{both-true}
 use Rattle.stretch.specs.declared.Sought.{Sought}
 use Rattle.stretch.specs.Stretch.{inSought, Each}
-use Rattle.stretch.proofs.Places.{none, more}
+use Rattle.unicode.proofs.Places.{none, more}
 use Rattle.stretch.proofs.block.Statement.{statement}
 use Rattle.stretch.proofs.block.Tie as tie
 
@@ -20,7 +20,7 @@ record Going (s : List ℕ) (at : ℕ) (q : Sought) (good : Bool) (j : ℕ) : Ty
 
 module _ (s : List ℕ) (at : ℕ) (q : Sought) where
   begin : Going s at q true at
-  begin = record { from = omega arith; low = omega arith; each = λ t. none _ _ }
+  begin = record { from = omega arith; low = omega arith; each = λ t. none _ _ _ (omega arith) }
 
   again : (good : Bool) (j : ℕ) → Going s at q good j → j < at + 16 → (b : Bool) → b ≡ inSought q (getD s j 0) → Going s at q (good && b) (j + 1)
   again good j g l b e =
@@ -44,7 +44,7 @@ abbrev μ-loop : tie.MeasureT-loop
 loop-again : tie.Need-loop-again Inv-loop μ-loop
 loop-again c =
     let l = c .before .before .before in
-    again _ _ _ _ _ (l .loop .inv) (c .before .before .loop-test .taken) _ (c .is-sought .ensures)
+    again _ _ _ _ _ (l .loop .inv) (omega (arith, c .before .before .loop-test .taken)) _ (c .is-sought .ensures)
 
 pub block-spec : {M : Type 1} → statement M
 block-spec =
@@ -60,4 +60,4 @@ block-spec =
     (λ c. search needs)
     (λ c. search needs)
     loop-again
-    (λ c. ended _ _ _ _ _ (c .before .loop .inv) (c .loop-test .left)))
+    (λ c. ended _ _ _ _ _ (c .before .loop .inv) (omega (arith, c .loop-test .left))))

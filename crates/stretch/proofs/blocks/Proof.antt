@@ -1,13 +1,11 @@
 -- `blocks` meets its contract: all places before the one at hand are sought.
-use Prim.Native.Nat.{ℕ, _+_, _-_, _≤_, _<_}
-use mathlib.Core.List.{List}
+use Prim.Native.Nat.{_-_}
 use lib.ListN.{length}
 use native.Mathlib.Omega.{arith}
 use borrow.Author.Needs.{needs}
 use borrow.Author.Tests.{not-false}
 use Rattle.stretch.specs.Stretch.{Stretch}
-use Rattle.stretch.proofs.Places.{none}
-use Rattle.stretch.proofs.Seeking.{one-more}
+use Rattle.stretch.proofs.Seeking.{nothing, one-more}
 use Rattle.stretch.proofs.blocks.Statement.{statement}
 use Rattle.stretch.proofs.blocks.Tie as tie
 
@@ -28,7 +26,7 @@ blocks-spec =
     (tie.spec
     Inv-loop
     μ-loop
-    (λ c. record { on = omega arith; low = c .before .pre; each = none _ _ })
+    (λ c. nothing _ _ _ (c .before .pre))
     (λ c. search needs)
     (λ c κs. omega (arith, c .before .loop .inv .low))
     (λ c. c .before .before .before .loop .inv)

@@ -1,4 +1,4 @@
--- `either` meets its contract.
+-- `either` meets its contract: its third range is the empty one.
 use borrow.Author.Needs.{needs}
 use Rattle.stretch.proofs.either.Statement.{statement}
 use Rattle.stretch.proofs.either.Tie as tie

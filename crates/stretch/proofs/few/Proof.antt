@@ -9,7 +9,7 @@ use borrow.Author.Needs.{needs}
 use borrow.Author.Tests.{not-false}
 use Rattle.stretch.specs.declared.Sought.{Sought}
 use Rattle.stretch.specs.Stretch.{inSought, Each, Stretch}
-use Rattle.stretch.proofs.Places.{none, more}
+use Rattle.unicode.proofs.Places.{none, more}
 use Rattle.stretch.proofs.few.Statement.{statement}
 use Rattle.stretch.proofs.few.Tie as tie
 
@@ -21,7 +21,7 @@ record Going (s : List ℕ) (from : ℕ) (q : Sought) (stop i : ℕ) : Type 0 wh
 
 module _ (s : List ℕ) (from : ℕ) (q : Sought) (stop : ℕ) where
   begin : from ≤ stop → stop ≤ length s → Going s from q stop from
-  begin l g = record { begun = omega arith; low = l; in-s = g; each = none _ _ }
+  begin l g = record { begun = omega arith; low = l; in-s = g; each = none _ _ _ (omega arith) }
 
   again : (i : ℕ) → Going s from q stop i → i < stop → (b : Bool) → b ≡ inSought q (getD s i 0) → b ≡ true → Going s from q stop (i + 1)
   again i g l b e t =

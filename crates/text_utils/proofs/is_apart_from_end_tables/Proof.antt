@@ -19,12 +19,10 @@ module _ (c : ℕ) where
   between : (lo hi : ℕ) → endsClear lo hi ≡ true → leb lo c && leb c hi ≡ true → Only
   between lo hi t h = let x = both-true _ _ h in end-clear lo hi t c (leb-true _ _ (x .0)) (leb-true _ _ (x .1))
 
-  in-spans : c ≤ 0xffffffff → ((leb 0x8e3 c && leb c 0xd4d) || (leb 0xd4f c && leb c 0x110bc)) || leb 0x11f03 c ≡ true → Only
-  in-spans top h =
-      ⊎-elim
-      (λ t. ⊎-elim (λ u. between 0x8e3 0xd4d refl u) (λ u. between 0xd4f 0x110bc refl u) (or-cases _ _ t))
-      (λ t. end-clear 0x11f03 0xffffffff refl c (leb-true _ _ t) top)
-      (or-cases _ _ h)
+  in-spans : (a b d e g : ℕ) → ((leb a c && leb c b) || (leb d c && leb c e)) || leb g c ≡ true → endsClear a b ≡ true → endsClear d e ≡ true →
+      endsClear g 0xffffffff ≡ true → c ≤ 0xffffffff → Only
+  in-spans a b d e g h x y z top =
+      ⊎-elim (λ t. ⊎-elim (λ u. between a b x u) (λ u. between d e y u) (or-cases _ _ t)) (λ t. end-clear g 0xffffffff z c (leb-true _ _ t) top) (or-cases _ _ h)
 
 pub is-apart-from-end-tables-spec : {M : Type 1} → statement M
-is-apart-from-end-tables-spec = tie.close (tie.spec (λ c h. in-spans _ (search needs) h))
+is-apart-from-end-tables-spec = tie.close (tie.spec (λ c h. in-spans _ _ _ _ _ _ h refl refl refl (search needs)))

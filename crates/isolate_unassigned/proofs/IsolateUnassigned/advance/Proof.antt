@@ -1,13 +1,12 @@
 -- `IsolateUnassigned::advance` meets its contract: a stretch of assigned characters is copied, and any other character is a step.
 use mathlib.Core.Path.{_≡_, ap, _∙_}
 use Prim.Native.Nat.{ℕ, _+_, _≤_, _<_}
-use mathlib.Core.List.{List}
 use lib.ListN.{length, getD}
 use lib.Seq.{sets}
 use borrow.Author.Needs.{needs}
 use Rattle.isolate_unassigned.specs.declared.Isolated.{Isolated}
 use Rattle.isolate_unassigned.specs.Isolate.{isolateStepOf, givesOut, after}
-use Rattle.isolate_unassigned.proofs.Stretch.{known, kept-room, kept-moves, turn-room, turn-moves}
+use Rattle.isolate_unassigned.proofs.Stretch.{found, kept-room, kept-moves, turn-room, turn-moves}
 use Rattle.isolate_unassigned.proofs.IsolateUnassigned.advance.Statement.{statement}
 use Rattle.isolate_unassigned.proofs.IsolateUnassigned.advance.Tie as tie
 
@@ -36,8 +35,8 @@ stepped : (c : tie.After-step-by) →
     0)
 stepped c =
     let u = c .before in
-    c .step-by .ensures _
-    (known _ _ _ _ (u .before .before .before .before .before .nearer .ensures) _ (u .before .before .either .ensures) _ _ (u .before .is-sought .ensures) (u .is-private-use-area .ensures))
+    let f = found _ _ _ _ (u .before .before .before .before .before .nearer .ensures) _ (u .before .before .either .ensures) in
+    c .step-by .ensures _ (u .is-isolated .ensures _ (u .before .is-sought .ensures ∙ f))
 
 -- room for a step, by its value
 room : (s t : Isolated) → s ≡ t → (k n : ℕ) → k + length (givesOut t) ≤ n → k + length (givesOut s) ≤ n
@@ -52,9 +51,6 @@ put-step-requires c κs =
 -- the place after the character is a number of 64 bits: the run has it
 next-fits : (c : tie.After-shared-slice-known3) → c .before .before .before .before .args .i + 1 < 18446744073709551616
 next-fits c = search needs
-
-add-at : tie.Need-add-t40
-add-at c = record { fits = next-fits (c .before .before .before .before .before .before .before .before .before .before .before .before) }
 
 returns-2 : tie.Need-returns-2
 returns-2 c =
@@ -90,7 +86,7 @@ advance-spec =
     (λ c κs. search needs)
     (λ c κs. search needs)
     put-step-requires
-    add-at
+    (λ c. record { fits = next-fits (c .before .before .before .before .before .before .before .before .before .before .before .before) })
     (λ c. search needs)
     returns
     (λ c. search needs)

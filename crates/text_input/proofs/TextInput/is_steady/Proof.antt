@@ -1,4 +1,4 @@
--- `is_steady` meets its contract.
+-- `is_steady` meets its contract: its two tests are those of `steady`.
 use borrow.Author.Needs.{needs}
 use Rattle.text_input.proofs.TextInput.is_steady.Statement.{statement}
 use Rattle.text_input.proofs.TextInput.is_steady.Tie as tie

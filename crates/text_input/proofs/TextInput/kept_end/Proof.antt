@@ -1,4 +1,4 @@
--- `kept_end` meets its contract: what is sought beside ASCII in a gap is a newline or plain.
+-- `kept_end` meets its contract: ASCII and what a gap has is a newline or plain.
 use Prim.Native.Nat.{ℕ, _≤_}
 use mathlib.Core.Bool.{true}
 use mathlib.Core.List.{List}

@@ -10,7 +10,7 @@ use borrow.Author.Needs.{needs}
 use borrow.Author.Tests.{ltb-true}
 use Rattle.unicode.specs.Inner.{Ascii}
 use Rattle.unicode.proofs.Kit.{both-true}
-use Rattle.unicode.proofs.Ascii.{none, one, joined}
+use Rattle.unicode.proofs.Places.{none, more}
 use Rattle.unicode.proofs.utf8.ascii_block.Statement.{statement}
 use Rattle.unicode.proofs.utf8.ascii_block.Tie as tie
 
@@ -20,7 +20,7 @@ record Good (bs : List ℕ) (at size : ℕ) (good : Bool) (tested : ℕ) : Type 
 
 -- where no byte was tested, nothing is said
 begin : (bs : List ℕ) (at size tested : ℕ) → tested ≤ 0 → Good bs at size true tested
-begin bs at size tested h = record { each = λ t. none bs at (at + tested) (omega arith); low = omega arith }
+begin bs at size tested h = record { each = λ t. none (λ x. getD bs x 0 < 0x80) at (at + tested) (omega arith); low = omega arith }
 
 again : (bs : List ℕ) (at size : ℕ) (good : Bool) (j : ℕ) → Good bs at size good j → j < size
     → Good bs at size (good && ltb (getD bs (at + j) 0) 0x80) (j + 1)
@@ -28,7 +28,8 @@ again bs at size good j g l =
     record {
       each = λ t.
           let x = both-true good (ltb (getD bs (at + j) 0) 0x80) t in
-          joined bs at (at + j) (at + (j + 1)) (g .each (x .0)) (one bs (at + j) (at + (j + 1)) (omega arith) (ltb-true _ _ (x .1)));
+          let e : at + (j + 1) ≡ at + j + 1 = omega arith in
+          rw e (more (λ y. getD bs y 0 < 0x80) at (at + j) (g .each (x .0)) (ltb-true _ _ (x .1)));
       low = omega arith;
     }
 

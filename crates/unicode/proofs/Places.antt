@@ -1,15 +1,15 @@
 -- A property of every place from one up to another. Assumes nothing.
 --     none       no place
 --     more       one place more
---     joined     two stretches, one behind the other
+--     joined     two stretches of places, one behind the other
 use Prim.Native.Nat.{ℕ, _+_, _≤_, _<_}
 use native.Mathlib.Omega.{arith}
 use borrow.Author.Count.{below-more}
 use Rattle.unicode.proofs.Kit.{by-lt}
 
 module _ (P : ℕ → Type 0) (f : ℕ) where
-  pub none : (x : ℕ) → f ≤ x → x < f → P x
-  none x l h = absurd (omega arith)
+  pub none : (t : ℕ) → t ≤ f → (x : ℕ) → f ≤ x → x < t → P x
+  none t e x l h = absurd (omega arith)
 
   pub more : (j : ℕ) → ((x : ℕ) → f ≤ x → x < j → P x) → P j → (x : ℕ) → f ≤ x → x < j + 1 → P x
   more j h p x l g = below-more (λ y. f ≤ y → P y) j (λ y m k. h y k m) (λ m. p) x g l
