@@ -1,7 +1,6 @@
 -- A stretch of assigned characters where nothing is owed: each is given out as it is, and only the last one sets the record.
 -- Assumes nothing.
 --     either-assigned              what is in one of two ranges of assigned characters is assigned
---     found                        whether a character is assigned, by the ranges at hand
 --     keep-step                    one assigned character, where nothing is owed
 --     keeps-gives, keeps-leads     a run of them
 --     isolated-append              a run in two parts
@@ -16,28 +15,23 @@ use native.Mathlib.Omega.{arith}
 use lib.Dec.{eqb}
 use lib.ListN.{length, drop, getD, length-append}
 use lib.Seq.{sets, drop-cons}
-use Rattle.unicode.proofs.Kit.{never, or-cases}
+use Rattle.unicode.proofs.Kit.{never, or-cases, by-lt}
 use Rattle.ranges.specs.declared.Range.{Range}
 use Rattle.page.specs.Page.{assigned}
 use Rattle.page.specs.Inner.{Assigned}
-use Rattle.stretch.specs.declared.Sought.{Sought}
-use Rattle.stretch.specs.Stretch.{inSought, eitherOf, part}
+use Rattle.stretch.specs.Stretch.{inSought, eitherOf, Stretch, part}
 use Rattle.stretch.proofs.Seeking.{none-in-gap}
 use Rattle.stretch.proofs.Parts.{cut, part-length, part-at, part-one}
 use Rattle.isolate_unassigned.specs.declared.IsolateUnassigned.{IsolateUnassigned}
 use Rattle.isolate_unassigned.specs.declared.Isolated.{Isolated}
 use Rattle.isolate_unassigned.specs.declared.Isolated.the-variants.{One}
 use Rattle.isolate_unassigned.specs.Isolate.{toIsolate, isolatorOf, isolateStepOf, givesOut, after, isolatedFrom}
-use Rattle.isolate_unassigned.specs.Inner.{gives, leads, Nearer, Keeps, Moves}
+use Rattle.isolate_unassigned.specs.Inner.{gives, leads, Moves}
 
 module _ (p : List ℕ) (base near : Range) (a : Assigned p base) (b : Assigned p near) (c : ℕ) where
   pub either-assigned : inSought (eitherOf base near) c ≡ true → assigned p c ≡ true
   either-assigned h =
       ⊎-elim (λ t. ⊎-elim (λ u. a c u) (λ u. b c u) (or-cases _ _ t)) (λ t. never (sym (none-in-gap c) ∙ t)) (or-cases _ _ h)
-
--- the base and the range that `nearer` answers tell whether c is assigned
-pub found : (p : List ℕ) (base near : Range) (c : ℕ) → Nearer p base c near → (q : Sought) → q ≡ eitherOf base near → inSought q c ≡ assigned p c
-found p base near c n q e = ap (λ (x : Sought). inSought x c) e ∙ n .tells
 
 module _ (p : List ℕ) where
   pub keep-step : (r : IsolateUnassigned) (c : ℕ) → r .«need_cgj» ≡ false → assigned p c ≡ true →
@@ -70,27 +64,30 @@ module _ (p : List ℕ) (r : IsolateUnassigned) (cs : List ℕ) (i : ℕ) (out :
   abbrev Room : Type 0
   Room = k + length (isolatedFrom p r (drop i cs)) ≤ length out
 
-  module _ (base near : Range) (a : Assigned p base) (b : Assigned p near) (j : ℕ) (v : Keeps r cs base near i j) (more : i < j) where
+  -- the character at i is assigned, nothing is owed, and behind it stands a stretch
+  module _ (base near : Range) (a : Assigned p base) (b : Assigned p near) (j : ℕ) (here : assigned p (getD cs i 0) ≡ true) (free : r .«need_cgj» ≡ false) (v : Stretch (eitherOf base near) cs (i + 1) j) where
     size : length (part i j cs) ≡ j - i
-    size = part-length cs i j (v .kept .on) (v .kept .low)
+    size = part-length cs i j (omega (arith, v .on)) (v .low)
 
     each : (x : ℕ) → x < length (part i j cs) → assigned p (getD (part i j cs) x 0) ≡ true
     each x l =
         let h : x < j - i = omega (arith, size) in
-        rw (part-at cs i j (v .kept .on) x h) (either-assigned p base near a b (getD cs (i + x) 0) (v .kept .each (i + x) (omega arith) (omega arith)))
+        rw (part-at cs i j (omega (arith, v .on)) x h)
+        (by-lt x 1 (λ e. let q : i + x ≡ i = omega arith in rw q here)
+        (λ g. either-assigned p base near a b (getD cs (i + x) 0) (v .each (i + x) (omega arith) (omega arith))))
 
     kept-gives : gives p r (part i j cs) ≡ part i j cs
-    kept-gives = keeps-gives p (part i j cs) r (v .free more) each
+    kept-gives = keeps-gives p (part i j cs) r free each
 
     kept-leads : leads p r (part i j cs) ≡ isolatorOf false (eqb (getD cs (j - 1) 0) 0x34F)
     kept-leads =
-        let e : i + (j - i - 1) ≡ j - 1 = omega arith in
-        keeps-leads p (part i j cs) (j - i - 1) r (omega (arith, size)) (v .free more) each
-        ∙ ap (λ (c : ℕ). isolatorOf false (eqb c 0x34F)) (part-at cs i j (v .kept .on) (j - i - 1) (omega arith) ∙ ap (λ x. getD cs x 0) e)
+        let e : i + (j - i - 1) ≡ j - 1 = omega (arith, v .on) in
+        keeps-leads p (part i j cs) (j - i - 1) r (omega (arith, size)) free each
+        ∙ ap (λ (c : ℕ). isolatorOf false (eqb c 0x34F)) (part-at cs i j (omega (arith, v .on)) (j - i - 1) (omega arith) ∙ ap (λ x. getD cs x 0) e)
 
     pub kept-room : Room → k + length (part i j cs) ≤ length out
     kept-room room =
-        let e = ap (isolatedFrom p r) (cut cs i j (v .kept .on)) ∙ isolated-append p (part i j cs) (drop j cs) r in
+        let e = ap (isolatedFrom p r) (cut cs i j (omega (arith, v .on))) ∙ isolated-append p (part i j cs) (drop j cs) r in
         let n = ap length e ∙ length-append (gives p r (part i j cs)) (isolatedFrom p (leads p r (part i j cs)) (drop j cs)) in
         let m = ap length kept-gives in
         omega (arith, n, m)
@@ -99,8 +96,8 @@ module _ (p : List ℕ) (r : IsolateUnassigned) (cs : List ℕ) (i : ℕ) (out :
         Moves p r cs i out k (record { at = j; written = k + (j - i); next = isolatorOf false (eqb (getD cs (j - 1) 0) 0x34F); near = near }) places
     kept-moves places e =
         record {
-          on = more;
-          under = v .kept .low;
+          on = omega (arith, v .on);
+          under = v .low;
           written = rw kept-gives (ap (λ n. k + n) (sym size));
           next = sym kept-leads;
           places = rw kept-gives e;

@@ -6,6 +6,7 @@ use page::assigned_range;
 use page::is_accepted;
 use page::is_assigned;
 use ranges::Range;
+use ranges::in_range;
 use stretch::either;
 use stretch::either_end;
 use stretch::is_sought;
@@ -23,7 +24,7 @@ ghost use Rattle.unicode.specs.Chars.{filled};
 ghost use Rattle.page.specs.Page.{accepted, assigned};
 ghost use Rattle.page.specs.Inner.{Assigned};
 ghost use Rattle.isolate_unassigned.specs.Isolate.{toIsolate, fresh, isolateStepOf, givesOut, after, isolatedFrom, placesForRun, isolateOf, writtenNumbers, isolateAnswer, isolatePlaces};
-ghost use Rattle.isolate_unassigned.specs.Inner.{Nearer, Keeps, Moves};
+ghost use Rattle.isolate_unassigned.specs.Inner.{Nearer, Moves};
 
 // Puts 34F around unassigned characters.
 pub struct IsolateUnassigned {
@@ -146,18 +147,31 @@ fn put_step(step: Isolated, out: &mut [u32], k: usize) -> Turned
     }
 }
 
-// The range to look in beside the base: this one where it or the base has c, and else the one that a search for c finds. Inner: asks
-// for an accepted page, and for ranges of assigned characters.
-fn nearer(page: &[u32], base: Range, near: Range, c: u32) -> Range
+// A range of assigned characters to look in beside the base, and whether c was found in one of the two.
+struct Near {
+    range: Range,
+    found: bool,
+}
+
+// Looks for c in the base and in this range, and in the page where neither has it. Inner: asks for an accepted page, and for ranges of
+// assigned characters.
+fn nearer(page: &[u32], base: Range, near: Range, c: u32) -> Near
     requires page { ⌜ accepted (now page) ≡ true ⌝ }
     requires base { ⌜ Assigned (now page) base ⌝ }
     requires near { ⌜ Assigned (now page) near ⌝ }
-    ensures { λ r. ⌜ Nearer (now (page .entry)) base c r ⌝ }
+    ensures { λ r. ⌜ Nearer (now (page .entry)) c r ⌝ }
 {
     if is_sought(either(base, near), c) {
-        return near;
+        return Near {
+            range: near,
+            found: true,
+        };
     }
-    assigned_range(page, c)
+    let range = assigned_range(page, c);
+    Near {
+        range,
+        found: in_range(range, c),
+    }
 }
 
 // How far a run is taken and the places are written, the record, and the range to look in next.
@@ -169,21 +183,9 @@ struct Moved {
 }
 
 impl IsolateUnassigned {
-    // A place of the run up to which all from place i on are in one of two ranges, where nothing is owed; i itself where something is.
-    // Inner: asks for a place of the run.
-    fn kept_end(self, chars: &[u32], i: usize, base: Range, near: Range) -> usize
-        requires { ⌜ i ≤ length (now chars) ⌝ }
-        ensures { λ r. ⌜ Keeps self (now (chars .entry)) base near i r ⌝ }
-    {
-        if self.need_cgj {
-            return i;
-        }
-        either_end(chars, i, base, near)
-    }
-
-    // One character or more of the run from place i on, and what is given out for them stored from place k on: a stretch that is
-    // copied, or one step. Inner: asks for an accepted page, for a character at i, for ranges of assigned characters, and for room for
-    // all that is left.
+    // One character or more of the run from place i on, and what is given out for them stored from place k on: a stretch of assigned
+    // characters that is copied, where nothing is owed, or one step. Inner: asks for an accepted page, for a character at i, for ranges
+    // of assigned characters, and for room for all that is left.
     fn advance(
         self,
         page: &[u32],
@@ -203,8 +205,10 @@ impl IsolateUnassigned {
     {
         let c = chars[i];
         let close = nearer(page, base, near, c);
-        let end = self.kept_end(chars, i, base, close);
-        if i < end {
+        let range = close.range;
+        let found = close.found;
+        if found & !self.need_cgj {
+            let end = either_end(chars, i + 1, base, range);
             put_run(&chars[i..end], out, k);
             let last = chars[end - 1];
             let next = IsolateUnassigned {
@@ -215,18 +219,17 @@ impl IsolateUnassigned {
                 at: end,
                 written: k + (end - i),
                 next,
-                near: close,
+                near: range,
             }
         } else {
-            let unassigned = is_isolated(is_sought(either(base, close), c), c);
-            let step = self.step_by(unassigned, c);
+            let step = self.step_by(is_isolated(found, c), c);
             let turned = put_step(step, out, k);
             let next = turned.next;
             Moved {
                 at: i + 1,
                 written: turned.written,
                 next,
-                near: close,
+                near: range,
             }
         }
     }
