@@ -26,7 +26,7 @@ pub struct Sought {
 }
 
 // Tab, newline, 20 to 7E, and a gap.
-fn ascii_or(gap: Range) -> Sought
+pub fn ascii_or(gap: Range) -> Sought
     ensures { λ r. ⌜ r ≡ asciiOr gap ⌝ }
 {
     Sought {

@@ -3,6 +3,7 @@
 -- Assumes nothing.
 --     keep-step                  one such character
 --     keeps-outs, keeps-ends     a run of them
+--     Keeps, keeps               a stretch of a chunk, by what was found
 --     kept-room, kept-moves      `advance` over such a stretch
 --     turn-room, turn-moves      and over one character
 use Prim.Native.Nat.{ℕ, suc, _+_, _-_, _≤_, _<_}
@@ -16,10 +17,11 @@ use lib.Seq.{sets, drop-cons}
 use borrow.Author.Tests.{eqb-true, ne-eqb, not-true}
 use Rattle.replace.specs.declared.Replaced.the-variants.{One}
 use Rattle.replace.specs.Table.{inSpans}
-use Rattle.unicode.proofs.Kit.{both-true}
+use Rattle.unicode.proofs.Kit.{both-true, by-lt}
 use Rattle.ranges.specs.declared.Range.{Range}
-use Rattle.stretch.specs.Stretch.{part}
-use Rattle.stretch.specs.Plain.{special, Kept, Gap}
+use Rattle.stretch.specs.Stretch.{inSought, Stretch, part}
+use Rattle.stretch.specs.Plain.{special, Kept, Gap, asciiOr}
+use Rattle.stretch.proofs.Clear.{sought-kept}
 use Rattle.stretch.proofs.Parts.{cut, part-length, part-at, part-one}
 use Rattle.text_input.specs.declared.State.{State}
 use Rattle.text_input.specs.declared.State.the-variants.{Ground, Cr, Ff, Esc, CsiStart, Csi, Osc, Linux}
@@ -33,7 +35,7 @@ use Rattle.text_input.specs.Sets.{optionalLine}
 use Rattle.text_input.specs.declared.step.Step.{Step}
 use Rattle.text_input.specs.Step.{scanStepOf, outChars, leaveOf, meetOf, madeOf, lastOf}
 use Rattle.text_input.specs.Scan.{outs, ends}
-use Rattle.text_input.specs.Inner.{grounded, steady, passedBy, Keeps, Moves}
+use Rattle.text_input.specs.Inner.{grounded, steady, passedBy, Moves}
 use Rattle.text_input.proofs.Chunks.{outs-append}
 
 -- ---- one character
@@ -105,46 +107,66 @@ module _ (p : List ℕ) (o : Options) where
       ends-last c xs r s h ∙ ap (passedBy r) (last-at c xs) ∙ rw q
 
 -- ---- a stretch that is kept
-module _ (p : List ℕ) (o : Options) (r : TextInput) (chunk : List ℕ) (i j : ℕ) (k : Keeps r chunk i j) (more : i < j) where
+-- nothing is pending, no start is expected, and all from place i up to place j are newlines or plain
+pub record Keeps (r : TextInput) (chunk : List ℕ) (i j : ℕ) : Type 0 where
+  pub more : i < j
+  pub low : j ≤ length chunk
+  pub ready : steady r ≡ true
+  pub kept : (x : ℕ) → i ≤ x → x < j → Kept (getD chunk x 0)
+
+-- the character at i is sought, and so are those of a stretch behind it
+pub keeps : (r : TextInput) (chunk : List ℕ) (i j : ℕ) (gap : Range) → steady r ≡ true → Gap gap → inSought (asciiOr gap) (getD chunk i 0) ≡ true →
+    Stretch (asciiOr gap) chunk (i + 1) j → Keeps r chunk i j
+keeps r chunk i j gap t g h v =
+    record {
+      more = omega (arith, v .on);
+      low = v .low;
+      ready = t;
+      kept = λ x l m.
+          sought-kept gap g (getD chunk x 0)
+          (by-lt x (i + 1) (λ e. let q : x ≡ i = omega arith in rw q h) (λ e. v .each x e m));
+    }
+
+module _ (p : List ℕ) (o : Options) (r : TextInput) (chunk : List ℕ) (i j : ℕ) (k : Keeps r chunk i j) where
   each : (x : ℕ) → x < length (part i j chunk) → Kept (getD (part i j chunk) x 0)
   each x l =
-      let n = part-length chunk i j (k .from) (k .low) in
+      let n = part-length chunk i j (omega (arith, k .more)) (k .low) in
       let h : x < j - i = omega (arith, n) in
-      rw (part-at chunk i j (k .from) x h) (k .kept (i + x) (omega arith) (omega arith))
+      rw (part-at chunk i j (omega (arith, k .more)) x h) (k .kept (i + x) (omega arith) (omega arith))
 
   kept-outs : outs p o r (part i j chunk) ≡ part i j chunk
-  kept-outs = keeps-outs p o (part i j chunk) r (k .ready more) each
+  kept-outs = keeps-outs p o (part i j chunk) r (k .ready) each
 
   kept-ends : ends p o r (part i j chunk) ≡ passedBy r (getD chunk (j - 1) 0)
   kept-ends =
-      let n = part-length chunk i j (k .from) (k .low) in
+      let n = part-length chunk i j (omega (arith, k .more)) (k .low) in
       let e : i + (j - i - 1) ≡ j - 1 = omega arith in
-      keeps-ends p o (part i j chunk) (j - i - 1) r (omega (arith, n)) (k .ready more) each
-      ∙ ap (passedBy r) (part-at chunk i j (k .from) (j - i - 1) (omega arith) ∙ ap (λ x. getD chunk x 0) e)
+      keeps-ends p o (part i j chunk) (j - i - 1) r (omega (arith, n)) (k .ready) each
+      ∙ ap (passedBy r) (part-at chunk i j (omega (arith, k .more)) (j - i - 1) (omega arith) ∙ ap (λ x. getD chunk x 0) e)
 
 -- ---- one turn of `advance`: a stretch that is kept, or one character
 module _ (p : List ℕ) (o : Options) (r : TextInput) (chunk : List ℕ) (i : ℕ) (queue : List ℕ) (k : ℕ) where
   abbrev Room : Type 0
   Room = k + length (outs p o r (drop i chunk)) ≤ length queue
 
-  module _ (j : ℕ) (v : Keeps r chunk i j) (more : i < j) where
+  module _ (j : ℕ) (v : Keeps r chunk i j) where
     pub kept-room : Room → k + length (part i j chunk) ≤ length queue
     kept-room room =
-        let e = ap (outs p o r) (cut chunk i j (v .from)) ∙ outs-append p o r (part i j chunk) (drop j chunk) in
+        let e = ap (outs p o r) (cut chunk i j (omega (arith, v .more))) ∙ outs-append p o r (part i j chunk) (drop j chunk) in
         let n = ap length e ∙ length-append (outs p o r (part i j chunk)) (outs p o (ends p o r (part i j chunk)) (drop j chunk)) in
-        let m = ap length (kept-outs p o r chunk i j v more) in
+        let m = ap length (kept-outs p o r chunk i j v) in
         omega (arith, n, m)
 
     pub kept-moves : (gap : Range) → Gap gap → (next : TextInput) → next ≡ passedBy r (getD chunk (j - 1) 0) →
         (after : List ℕ) → after ≡ sets queue k (part i j chunk) →
         Moves p o r chunk i queue k (record { at = j; written = k + (j - i); next = next; gap = gap }) after
     kept-moves gap ps next e after a =
-        let q = kept-outs p o r chunk i j v more in
+        let q = kept-outs p o r chunk i j v in
         record {
-          on = more;
+          on = v .more;
           low = v .low;
-          written = rw q (ap (λ n. k + n) (sym (part-length chunk i j (v .from) (v .low))));
-          next = e ∙ sym (kept-ends p o r chunk i j v more);
+          written = rw q (ap (λ n. k + n) (sym (part-length chunk i j (omega (arith, v .more)) (v .low))));
+          next = e ∙ sym (kept-ends p o r chunk i j v);
           places = rw q a;
           gap = ps;
         }

@@ -5,10 +5,10 @@ use mathlib.Core.Bool.{Bool, true, false, not, _&&_}
 use mathlib.Core.List.{List}
 use mathlib.Core.Path.{_≡_}
 use lib.Dec.{eqb}
-use lib.ListN.{length, getD}
+use lib.ListN.{length}
 use lib.Seq.{sets}
 use Rattle.stretch.specs.Stretch.{part}
-use Rattle.stretch.specs.Plain.{Kept, Gap}
+use Rattle.stretch.specs.Plain.{Gap}
 use Rattle.text_input.specs.declared.State.{State}
 use Rattle.text_input.specs.declared.State.the-variants.{Ground, Cr, Ff, Esc, CsiStart, Csi, Osc, Linux}
 use Rattle.text_input.specs.declared.Options.{Options}
@@ -35,13 +35,6 @@ steady r = grounded (r .state) && not (r .«expect_starter»)
 abbrev pub passedBy : TextInput → ℕ → TextInput
 passedBy r c =
     record { state = Ground (eqb c 0x0A); «expect_starter» = false; «at_start» = r .«at_start»; last = c; count = r .count }
-
--- j is i, or nothing is pending, no start is expected, and all from place i up to place j are newlines or plain
-pub record Keeps (r : TextInput) (chunk : List ℕ) (i j : ℕ) : Type 0 where
-  pub from : i ≤ j
-  pub low : j ≤ length chunk
-  pub ready : i < j → steady r ≡ true
-  pub kept : (x : ℕ) → i ≤ x → x < j → Kept (getD chunk x 0)
 
 -- the chunk is taken from place i up to a later one, and what its characters come to is stored from place k on
 pub record Moves (p : List ℕ) (o : Options) (r : TextInput) (chunk : List ℕ) (i : ℕ) (queue : List ℕ) (k : ℕ) (m : Moved) (after : List ℕ) : Type 0 where

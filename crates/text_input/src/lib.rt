@@ -14,7 +14,9 @@ use queue::put_three;
 use ranges::Range;
 use step::Lead;
 use step::last_lead;
+use stretch::ascii_or;
 use stretch::first_gap;
+use stretch::is_sought;
 use stretch::next_gap;
 use stretch::plain_end;
 use stretch::put_run;
@@ -33,7 +35,7 @@ ghost use Rattle.page.specs.Page.{accepted};
 ghost use Rattle.stretch.specs.Plain.{Gap};
 ghost use Rattle.text_input.specs.Step.{scanStepOf, outChars};
 ghost use Rattle.text_input.specs.Scan.{fresh, outs, ends, placesForChunk, refusalOf, skipped, opened, outcome, scanOf, pendingOf, afterLine, endMarkOf, newlineOf, finishOf};
-ghost use Rattle.text_input.specs.Inner.{grounded, steady, passedBy, Keeps, Moves};
+ghost use Rattle.text_input.specs.Inner.{grounded, steady, passedBy, Moves};
 
 // What the characters so far leave open. `Ground`: nothing; its flag is true after a newline, and before the first character.
 pub enum State {
@@ -145,19 +147,6 @@ impl TextInput {
         }
     }
 
-    // A place of the chunk up to which all from place i on are appended as they come; i itself where none is known to be. Inner: asks
-    // for a place of the chunk and for a gap.
-    fn kept_end(self, chunk: &[u32], i: usize, gap: Range) -> usize
-        requires { ⌜ i ≤ length (now chunk) ⌝ }
-        requires { ⌜ Gap gap ⌝ }
-        ensures { λ r. ⌜ Keeps self (now (chunk .entry)) i r ⌝ }
-    {
-        if self.is_steady() {
-            return plain_end(chunk, i, gap);
-        }
-        i
-    }
-
     // One character or more of the chunk from place i on, and their output stored from place k on: a stretch that is copied, or one
     // step. Inner: asks for an accepted page, for a character at i, for a gap, and for room for all that is left.
     fn advance(
@@ -176,8 +165,9 @@ impl TextInput {
         requires room { ⌜ k + length (outs (now page) options self (drop i (now chunk))) ≤ length (now queue) ⌝ }
         ensures { λ r. ⌜ Moves (now (page .entry)) options self (now (chunk .entry)) i (now (queue .entry)) k r (now (queue .exit)) ⌝ }
     {
-        let end = self.kept_end(chunk, i, gap);
-        if i < end {
+        let c = chunk[i];
+        if self.is_steady() & is_sought(ascii_or(gap), c) {
+            let end = plain_end(chunk, i + 1, gap);
             put_run(&chunk[i..end], queue, k);
             let next = self.passed(chunk[end - 1]);
             Moved {
@@ -187,7 +177,6 @@ impl TextInput {
                 gap,
             }
         } else {
-            let c = chunk[i];
             let turned = self.turn(page, options, c, queue, k);
             let next = turned.next;
             let near = next_gap(gap, c);
