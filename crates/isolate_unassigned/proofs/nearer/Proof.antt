@@ -1,5 +1,5 @@
 -- `nearer` meets its contract: what one of the two ranges has is assigned, and where neither has c the range that is found tells.
-use mathlib.Core.Path.{_≡_, sym, ap, _∙_}
+use mathlib.Core.Path.{sym, ap, _∙_}
 use borrow.Author.Needs.{needs}
 use Rattle.stretch.specs.declared.Sought.{Sought}
 use Rattle.stretch.specs.Stretch.{inSought}
