@@ -2,6 +2,7 @@
 -- one test, which antt computes for each gap. Assumes nothing.
 --     clear           the test
 --     gap-clear       the characters of a range that passes it are plain
+--     Kept            a newline, or plain
 --     sought-kept     ASCII and what a gap has is a newline or plain
 use Prim.Native.Nat.{ℕ, _≤_, _<_}
 use mathlib.Core.Path.{_≡_, refl}
@@ -20,7 +21,7 @@ use Rattle.replace.specs.Table.{Span, _to_, Row, _gives_, has, inSpans, lookup}
 use Rattle.replace.specs.Replace.{replacements, replaceOf}
 use Rattle.check_char.specs.Check.{refusals, reasonOf}
 use Rattle.stretch.specs.Stretch.{inGap, inSought}
-use Rattle.stretch.specs.Plain.{special, Kept, Gap, asciiOr}
+use Rattle.stretch.specs.Plain.{special, Plain, Gap, asciiOr}
 
 -- ---- the test
 module _ (r : Range) where
@@ -87,6 +88,10 @@ gap-clear r t c h =
       accepted = finds-none r c h 0 refusals (y .0);
       other = in-none r c h special (y .1);
     }
+
+-- a newline, or plain: what comes out of the ground state as it goes in
+abbrev pub Kept : ℕ → Type 0
+Kept c = (eqb c 0xa ≡ false → Plain c)
 
 -- ---- ASCII, as two gaps
 module _ (c : ℕ) where

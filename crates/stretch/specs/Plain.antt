@@ -3,7 +3,6 @@ use Prim.Native.Nat.{ℕ}
 use mathlib.Core.Path.{_≡_}
 use mathlib.Core.Bool.{true, false}
 use mathlib.Core.List.{List, [], _∷_}
-use lib.Dec.{eqb}
 use Rattle.ranges.specs.declared.Range.{Range}
 use Rattle.replace.specs.declared.Replaced.the-variants.{One}
 use Rattle.replace.specs.Table.{Span, _to_, one, inSpans}
@@ -22,10 +21,6 @@ pub record Plain (c : ℕ) : Type 0 where
   pub same : replaceOf c ≡ One c
   pub accepted : reasonOf c ≡ 0
   pub other : inSpans special c ≡ false
-
--- a newline, or plain: what comes out of the ground state as it goes in
-abbrev pub Kept : ℕ → Type 0
-Kept c = (eqb c 0xa ≡ false → Plain c)
 
 -- every character of the range is plain, but 149 and 673
 abbrev pub Gap : Range → Type 0

@@ -20,8 +20,8 @@ use Rattle.replace.specs.Table.{inSpans}
 use Rattle.unicode.proofs.Kit.{both-true, by-lt}
 use Rattle.ranges.specs.declared.Range.{Range}
 use Rattle.stretch.specs.Stretch.{inSought, Stretch, part}
-use Rattle.stretch.specs.Plain.{special, Kept, Gap, asciiOr}
-use Rattle.stretch.proofs.Clear.{sought-kept}
+use Rattle.stretch.specs.Plain.{special, Gap, asciiOr}
+use Rattle.stretch.proofs.Clear.{Kept, sought-kept}
 use Rattle.stretch.proofs.Parts.{cut, part-length, part-at, part-one}
 use Rattle.text_input.specs.declared.State.{State}
 use Rattle.text_input.specs.declared.State.the-variants.{Ground, Cr, Ff, Esc, CsiStart, Csi, Osc, Linux}
