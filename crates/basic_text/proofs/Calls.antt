@@ -1,5 +1,5 @@
 -- What a call answers and leaves, from what the numbers' call does (text_input, proofs/Calls.antt). Idea: the numbers stored in the
--- first places of the queue are their bytes stored there. Assumes nothing.
+-- first places of the queue are their bytes stored there.
 --     scan-refused                       a scan that is refused
 --     finish-refused, finished           a finish that is refused, and one that is not: what its two places hold, and the answer
 --     few, inside, room, scan-accepted   an accepted scan: the count stays within its limit, the chunk has what is skipped, what is

@@ -1,5 +1,5 @@
 -- What goes over to the caller comes back as it was: the two tables for states, modes and flags agree, and so do reading and writing
--- numbers. So a stream's records are handed on from call to call unchanged. Assumes nothing.
+-- numbers. So a stream's records are handed on from call to call unchanged.
 --     record-back     a record as numbers, read again
 --     writer-back     the writer's record as numbers, read again
 --     Wide            each number of a list has 32 bits

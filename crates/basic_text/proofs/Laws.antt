@@ -1,4 +1,4 @@
--- Laws on bytes read as numbers. Assumes nothing.
+-- Laws on bytes read as numbers.
 --     Bytes             each number of a list is a byte
 --     four-more         four more places for each number
 --     length-numbers    a number for every four bytes

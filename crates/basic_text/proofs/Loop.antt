@@ -1,5 +1,5 @@
 -- The loop of `run` on lists. At its head what is left of the characters, from the record at hand and stored from place k on, leads
--- to the same end as all of them stored from the first place on. Assumes nothing.
+-- to the same end as all of them stored from the first place on.
 --     Going     what holds at the head of the loop
 --     begin     at the start, where there is room for the whole
 --     few       how long a piece is

@@ -1,4 +1,4 @@
--- Numbers stored in a queue of bytes, as the functions of a write store them. Assumes nothing.
+-- Numbers stored in a queue of bytes, as the functions of a write store them.
 --     numbers-sets, tail-sets    the bytes of numbers, stored, are the numbers stored, and the bytes past the last whole four stay
 --     take-wide, take-fits      the first of some numbers
 --     moved                     what some steps stored in places of their own, moved behind k numbers, is what they store there
@@ -22,13 +22,13 @@ use Rattle.isolate_unassigned.specs.declared.IsolateUnassigned.{IsolateUnassign
 use Rattle.isolate_unassigned.specs.Isolate.{lastOwed}
 use Rattle.isolate_unassigned.proofs.Laws.{lastOwed-size}
 use Rattle.text_output.specs.declared.TextOutput.{TextOutput}
-use Rattle.text_write.specs.declared.store.Place.{Place}
-use Rattle.text_write.specs.declared.store.Pushed.{Pushed}
-use Rattle.text_write.specs.declared.store.Pushed.the-variants.{On, Stopped}
+use Rattle.text_output_write.specs.declared.store.Place.{Place}
+use Rattle.text_output_write.specs.declared.store.Pushed.{Pushed}
+use Rattle.text_output_write.specs.declared.store.Pushed.the-variants.{On, Stopped}
 use Rattle.text_output.specs.Writer.{heldIn, sound}
 use Rattle.text_output.specs.Step.{Stepped, stepsOf}
-use Rattle.text_write.specs.Inner.{Progress, writerAt, pushed, stored, progress, turnOf}
-use Rattle.text_write.proofs.Stays.{steps-stay, turn-sound}
+use Rattle.text_output_write.specs.Inner.{Progress, writerAt, pushed, stored, progress, turnOf}
+use Rattle.text_output_write.proofs.Stays.{steps-stay, turn-sound}
 use Rattle.basic_text.specs.Exports.{numberOf, numbersOf, bytesOf, withNumbers}
 use Rattle.basic_text.specs.Inner.{tail, atPlace, placeIn, behindOf}
 use Rattle.basic_text.proofs.Laws.{Bytes, four-more, length-numbers, length-bytes, with-all}

@@ -1,5 +1,4 @@
 -- A page's length. Idea: an accepted page has at most `longestPage` numbers, so that one with more may be taken for the empty one.
--- Assumes nothing.
 --     right-page, long-page, odd-page    what `fitting` makes of the pages that `read_page` and `read_fitting` tell apart
 --     scan-reply, write-reply            a scan, a write by the page that was read, among other places, is that by the page
 use Prim.Native.Nat.{ℕ, _-_, _/_, _%_, _≤_, _<_}

@@ -1,4 +1,4 @@
--- Runs of stores. Assumes nothing.
+-- Runs of stores.
 --     take-filled     the first places hold what filled them
 --     stored-first    what a call stored from the first place on is read back from there
 --     sets-bytes      the bytes of two lists of numbers, stored one after the other

@@ -1,7 +1,7 @@
 -- What the exported calls read and write: bytes as 32-bit numbers, and a record, options and an answer as plain numbers. Document 01,
 -- "Rust shapes that give way": "Scan, finish and byte write are exported on numbers and byte slices for the Rust harness." The calls
 -- themselves are those of `text_input`, specs/Scan.antt, and of `text_output`, specs/Write.antt. Which number stands for which state,
--- mode or option document 01 leaves open. Assumes nothing.
+-- mode or option document 01 leaves open.
 use Prim.Native.Nat.{ℕ, _+_, _*_, _/_, _%_}
 use mathlib.Core.Bool.{Bool, true, false, cond, not}
 use mathlib.Core.List.{List, [], _∷_, _++_}

@@ -1,13 +1,13 @@
 -- What the contracts of private functions cite. The contracts of the exports cite nothing of it. Document 01, "A chunk comes in" for
--- the page, "Characters go out" for the rest. Assumes nothing.
+-- the page, "Characters go out" for the rest.
 use Prim.Native.Nat.{ℕ, _+_, _*_}
 use mathlib.Core.Bool.{cond}
 use mathlib.Core.List.{List, []}
 use lib.Dec.{leb}
 use lib.ListN.{length, drop}
-use Rattle.text_write.specs.declared.store.Place.{Place}
-use Rattle.text_write.specs.declared.store.Pushed.{Pushed}
-use Rattle.text_write.specs.declared.store.Pushed.the-variants.{On, Stopped}
+use Rattle.text_output_write.specs.declared.store.Place.{Place}
+use Rattle.text_output_write.specs.declared.store.Pushed.{Pushed}
+use Rattle.text_output_write.specs.declared.store.Pushed.the-variants.{On, Stopped}
 use Rattle.basic_text.specs.declared.plain_writer.Reason.{Reason}
 use Rattle.basic_text.specs.Exports.{numbersOf, reasonIn, characterIn, countIn, firstIn, secondIn, thirdIn}
 

@@ -1,21 +1,21 @@
-// A write of bytes into a buffer that is lent as bytes: the steps and the end are those of the crate `text_write`. The characters of
+// A write of bytes into a buffer that is lent as bytes: the steps and the end are those of the crate `text_output_write`. The characters of
 // one turn are stored as numbers first, since a turn hands out at most 67: 64 held, 34F and two more.
 use super::numbers::read_number;
 use super::numbers::write_numbers;
 use isolate_unassigned::IsolateUnassigned;
 use text_output::TextOutput;
 use text_output::WrittenBytes;
-use text_write::Place;
-use text_write::Pushed;
-use text_write::Turned;
-use text_write::bytes_refusal;
-use text_write::end_write;
-use text_write::finish;
-use text_write::is_crlf;
-use text_write::place_of;
-use text_write::refused_bytes;
-use text_write::taking;
-use text_write::turn;
+use text_output_write::Place;
+use text_output_write::Pushed;
+use text_output_write::Turned;
+use text_output_write::bytes_refusal;
+use text_output_write::end_write;
+use text_output_write::finish;
+use text_output_write::is_crlf;
+use text_output_write::place_of;
+use text_output_write::refused_bytes;
+use text_output_write::taking;
+use text_output_write::turn;
 use unicode::Utf8Step;
 use unicode::utf8_step;
 use unicode::valid_prefix;
@@ -31,7 +31,7 @@ ghost use Rattle.isolate_unassigned.specs.Isolate.{lastOwed};
 ghost use Rattle.text_output.specs.Writer.{sound, bytesOutcome};
 ghost use Rattle.text_output.specs.Step.{stepsOf};
 ghost use Rattle.text_output.specs.Write.{runIn, writeOf};
-ghost use Rattle.text_write.specs.Inner.{writerAt, pushed, stored, progress, turnOf, isolatorAfter};
+ghost use Rattle.text_output_write.specs.Inner.{writerAt, pushed, stored, progress, turnOf, isolatorAfter};
 ghost use Rattle.basic_text.specs.Exports.{numbersOf, withNumbers};
 ghost use Rattle.basic_text.specs.Inner.{tail, atPlace, placeIn, behindOf};
 
@@ -83,7 +83,7 @@ fn move_behind(pushed: Pushed, k: usize, few: &[u32], queue: &mut [u8]) -> Pushe
     }
 }
 
-// One character of a write. Inner, as `text_write::turn`.
+// One character of a write. Inner, as `text_output_write::turn`.
 fn turn_bytes(
     page: &[u32],
     crlf: bool,
@@ -116,7 +116,7 @@ fn turn_bytes(
     }
 }
 
-// The 34F that the isolator owes at the end. Inner, as `text_write::finish`.
+// The 34F that the isolator owes at the end. Inner, as `text_output_write::finish`.
 fn finish_bytes(
     w: Place,
     isolator: IsolateUnassigned,
@@ -139,7 +139,7 @@ fn finish_bytes(
     move_behind(pushed, w.at, &few, queue)
 }
 
-// The steps of a write of the longest valid prefix. Inner, as `text_write::turn`. What is left of them, from the place at hand on,
+// The steps of a write of the longest valid prefix. Inner, as `text_output_write::turn`. What is left of them, from the place at hand on,
 // leads to the same end.
 fn run_write(
     page: &[u32],

@@ -197,7 +197,7 @@ fn handed_out(answer: Wrote) -> usize {
 #[no_mangle]
 pub extern "C" fn bench_write(page: &[u32], crlf: bool, chars: &[u32], out: &mut [u32]) -> usize {
     let w = writer(crlf);
-    let written = text_write::write_str(w, page, chars, out);
+    let written = text_output_write::write_str(w, page, chars, out);
     let answer = written.answer;
     handed_out(answer)
 }
@@ -206,7 +206,7 @@ pub extern "C" fn bench_write(page: &[u32], crlf: bool, chars: &[u32], out: &mut
 #[no_mangle]
 pub extern "C" fn bench_write_bytes(page: &[u32], bytes: &[u8], out: &mut [u32]) -> usize {
     let w = writer(false);
-    let written = text_write::write(w, page, bytes, out);
+    let written = text_output_write::write(w, page, bytes, out);
     let answer = written.answer;
     handed_out(answer)
 }

@@ -1,4 +1,4 @@
--- From the check's answer to those of the entry and of `Categorize`. Assumes nothing.
+-- From the check's answer to those of the entry and of `Categorize`.
 --     reason-listed        a reason is 0 or one of the listed numbers
 --     ok-only              only Ok lists as 0 alone
 --     accepted, refused    an answer is Ok exactly where the reason is 0

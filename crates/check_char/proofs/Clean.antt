@@ -1,5 +1,5 @@
 -- What any character is replaced by, as a table's rule: one test that antt computes over the rows of `replace` and of the check,
--- and the law that carries it to every number. Assumes nothing.
+-- and the law that carries it to every number.
 --     replaced-clean        what replaces a character but ESC is accepted by the check, or is 2126, 212A, 212B or a CJK compatibility
 --                           ideograph that the check lists; and is no ESC
 --     replaced-chars        what replaces a character are characters, one to three

@@ -1,6 +1,6 @@
 -- Which characters are refused, and why: `check_basic_text_char` of internals/src/check.rs. "4 a character refused by
 -- `check_basic_text_char` .., with the reason as the place in `BasicTextError` counted from 1 (2 to 16; 1 is unused); reasons 2,
--- 3, 13, 16 carry it, 16 also its one to three replacements." Assumes nothing.
+-- 3, 13, 16 carry it, 16 also its one to three replacements."
 use Prim.Native.Nat.{ℕ}
 use mathlib.Core.Bool.{Bool, true, cond, not, _&&_, _||_}
 use mathlib.Core.List.{List, [], _∷_}

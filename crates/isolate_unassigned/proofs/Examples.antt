@@ -1,4 +1,4 @@
--- Document 01's runs, with its page `0 1 0 377`: no nonstarters, and 0..377 assigned. Assumes nothing.
+-- Document 01's runs, with its page `0 1 0 377`: no nonstarters, and 0..377 assigned.
 --     examples    each run of the table isolates to what stands beside it
 use Prim.Native.Nat.{ℕ}
 use mathlib.Core.Path.{_≡_, refl}

@@ -1,5 +1,5 @@
 -- What isolation does to any run. Each law is shown of what the steps give from any record on, by the two answers of a step: 34F and
--- the character, or the character alone. Assumes nothing.
+-- the character, or the character alone.
 --     givesOut-size, lastOwed-size    a step gives at most two, and the end one
 --     length-isolate      it needs no more places than `placesForRun` says
 --     isolate-puts-in     it puts 34F in, and takes away, changes and moves nothing

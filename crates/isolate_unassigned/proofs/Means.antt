@@ -1,5 +1,5 @@
 -- The steps give what document 01 says. At each place the record says of the characters before it what the document asks: `need_cgj`
--- that the nearest one got 34F before it, and `have_cgj` that it is 34F. 34F is assigned, so both never hold. Assumes nothing.
+-- that the nearest one got 34F before it, and `have_cgj` that it is 34F. 34F is assigned, so both never hold.
 --     isolate-means    by an accepted page, `isolateOf` is `isolated`
 use Prim.Native.Nat.{ℕ}
 use mathlib.Core.Path.{_≡_, refl, sym, ap}

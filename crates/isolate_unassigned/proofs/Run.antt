@@ -1,5 +1,5 @@
 -- The loop of `isolate_run` on lists. At its head what is left of the run, given out from the record at hand and stored from place k
--- on, leads to the same end as the whole run stored from the first place on. Assumes nothing.
+-- on, leads to the same end as the whole run stored from the first place on.
 --     Going                     what holds at the head of the loop
 --     begin                     at the start, where there is room for the whole
 --     left                      there is room for what is left

@@ -1,5 +1,4 @@
 -- A stretch of assigned characters where nothing is owed: each is given out as it is, and only the last one sets the record.
--- Assumes nothing.
 --     either-assigned              what is in one of two ranges of assigned characters is assigned
 --     keep-step                    one assigned character, where nothing is owed
 --     keeps-gives, keeps-leads     a run of them

@@ -1,5 +1,5 @@
 -- Isolation as `internals/src/isolate_unassigned.rs` steps, and the entry on a run of characters (document 01, "Leaves"). 34F is CGJ.
--- `isolate-means` (proofs/Means.antt) ties it to the words of the document, specs/Meaning.antt. Assumes nothing.
+-- `isolate-means` (proofs/Means.antt) ties it to the words of the document, specs/Meaning.antt.
 use mathlib.Core.Bool.{Bool, false, not, cond, _&&_, _||_}
 use mathlib.Core.List.{List, [], _∷_, _++_}
 use Prim.Native.Nat.{ℕ, zero, suc, _+_, _*_}

@@ -1,5 +1,5 @@
 -- Isolation in the words of document 01, "Leaves", first item, and the relation by which a run goes into its result. Nothing here
--- is taken from the step of specs/Isolate.antt. Assumes nothing.
+-- is taken from the step of specs/Isolate.antt.
 -- A place of a run is known by the characters before it, the nearest first.
 use mathlib.Core.Bool.{Bool, true, false, not, cond, _&&_, _||_}
 use mathlib.Core.List.{List, [], _∷_, _++_}

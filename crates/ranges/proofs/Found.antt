@@ -1,4 +1,4 @@
--- One range, and what a search finds. Assumes nothing.
+-- One range, and what a search finds.
 --     in-range       what a range has lies from its first to its last
 --     empty          the empty range has nothing
 --     found-at       the first range that does not end before c

@@ -1,4 +1,4 @@
--- One range, and what a search among ranges finds. Cited by the contracts of inner functions. Assumes nothing.
+-- One range, and what a search among ranges finds. Cited by the contracts of inner functions.
 use mathlib.Core.Path.{_≡_}
 use mathlib.Core.Bool.{Bool, true, _&&_}
 use mathlib.Core.List.{List}

@@ -1,5 +1,5 @@
 -- An answer of `replacement` can be read back from its numbers, so that no two answers list alike and a contract on these is one on
--- the answer itself. Assumes nothing.
+-- the answer itself.
 --     replacement-back    each answer is read back
 use Prim.Native.Nat.{ℕ}
 use mathlib.Core.Path.{_≡_, refl}

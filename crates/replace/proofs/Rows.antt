@@ -1,6 +1,5 @@
 -- A rule of a table of rows, proved at every number by one test that antt computes over the rows.
 -- The test walks the rows with the pieces of the number line that no earlier row has; a piece is half-open.
--- Assumes nothing.
 use Prim.Native.Nat.{ℕ, zero, suc, min, max, _≤_, _<_}
 use mathlib.Core.Path.{_≡_, refl, sym, subst}
 use mathlib.Core.Bool.{Bool, true, false, not, cond, _&&_, _||_}

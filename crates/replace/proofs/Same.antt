@@ -1,4 +1,4 @@
--- A test that two answers of `replace` are the same, and its law. Assumes nothing.
+-- A test that two answers of `replace` are the same, and its law.
 use Prim.Native.Nat.{ℕ}
 use mathlib.Core.Path.{_≡_}
 use mathlib.Core.Bool.{Bool, false, _&&_}

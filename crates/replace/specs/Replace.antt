@@ -1,5 +1,5 @@
 -- What each character is replaced by: `replace` of internals/src/replace.rs, row by row in its order. "Replacement is one
--- decision over all characters, as `replace` has it; anything else is itself." Assumes nothing.
+-- decision over all characters, as `replace` has it; anything else is itself."
 use Prim.Native.Nat.{ℕ}
 use mathlib.Core.List.{List, [], _∷_, _++_}
 use Rattle.replace.specs.declared.Replaced.{Replaced}

@@ -1,6 +1,6 @@
 -- A decision over numbers, as a list of rows: the numbers from a first to a last, and the answer. The first row that has the
 -- number decides. Document 01, "Leaves": "Replacement is one decision over all characters"; "The shape each place takes": "A match on
--- the character with single values and ranges". Assumes nothing.
+-- the character with single values and ranges".
 use Prim.Native.Nat.{ℕ}
 use mathlib.Core.Bool.{Bool, false, _&&_, _||_, cond}
 use mathlib.Core.List.{List, [], _∷_}

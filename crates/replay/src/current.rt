@@ -1,11 +1,11 @@
 // The operation `P`: the current page, which stands in a lent buffer from its first place on.
 use crate::State;
-use protocol::answer;
-use protocol::answer::Why;
-use protocol::front;
-use protocol::words;
-use protocol::words::Rest;
-use protocol::words::Stored;
+use replay_words::answer;
+use replay_words::answer::Why;
+use replay_words::front;
+use replay_words::words;
+use replay_words::words::Rest;
+use replay_words::words::Stored;
 ghost use mathlib.Core.Path.{_≡_};
 ghost use lib.ListN.{length};
 

@@ -1,7 +1,7 @@
 // Replays operations of the library: reads them from standard input, one to a line, and writes an
 // answer line for each to standard output. Here are the buffers, the loop over the input, and the
-// way from a line to what answers it: the module `current` for `P`, the crate `leaf_calls` for `L`, the
-// modules of the crate `stream_calls` for `S` and `F`, and the crate `writer_calls` for `W`.
+// way from a line to what answers it: the module `current` for `P`, the crate `replay_leaves` for `L`, the
+// modules of the crate `replay_streams` for `S` and `F`, and the crate `replay_writer` for `W`.
 //
 // A function that answers is lent the buffers: line, the operation; numbers, for the numbers that
 // it gives; page, the current page; places, for what an entry stores; list, the places that live
@@ -9,15 +9,15 @@
 mod current;
 
 use libc::STDIN_FILENO;
-use protocol::answer;
-use protocol::answer::Why;
-use protocol::blank;
-use protocol::front;
-use protocol::lines;
-use stream_calls::filling;
-use stream_calls::scanner;
+use replay_words::answer;
+use replay_words::answer::Why;
+use replay_words::blank;
+use replay_words::front;
+use replay_words::lines;
+use replay_streams::filling;
+use replay_streams::scanner;
 use text_input::TextInput;
-use writer_calls::Current;
+use replay_writer::Current;
 
 // What lasts from line to line beside the lent buffers.
 pub struct State {
@@ -81,7 +81,7 @@ fn write(
     state: State,
 ) -> State {
     let before = state.writer;
-    let done = writer_calls::operate(line, numbers, page, places, list, out, state.out, before);
+    let done = replay_writer::operate(line, numbers, page, places, list, out, state.out, before);
     let after = done.current;
     let mut new = state;
     new.writer = after;
@@ -105,7 +105,7 @@ fn operate(
         new = current::operate(line, numbers, page, out, state);
     } else if first == b'L' {
         let now = front::numbers(page, state.page);
-        new.out = leaf_calls::operate(line, numbers, now, places, out, state.out);
+        new.out = replay_leaves::operate(line, numbers, now, places, out, state.out);
     } else if first == b'S' {
         let now = front::numbers(page, state.page);
         new = scan(line, numbers, now, places, out, state);

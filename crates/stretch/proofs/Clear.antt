@@ -1,5 +1,5 @@
 -- A gap's characters are plain: no row of the replacements and of the refusals, and no line end, page character or ESC, meets it. That is
--- one test, which antt computes for each gap. Assumes nothing.
+-- one test, which antt computes for each gap.
 --     clear           the test
 --     gap-clear       the characters of a range that passes it are plain
 --     Kept            a newline, or plain

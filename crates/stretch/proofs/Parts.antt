@@ -1,4 +1,4 @@
--- The part of a list from one place up to another. Assumes nothing.
+-- The part of a list from one place up to another.
 --     cut             what is left from a place on, as a part and what is left behind it
 --     part-length     how long a part is
 --     part-at         what stands at a place of it

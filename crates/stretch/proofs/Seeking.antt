@@ -1,4 +1,4 @@
--- What is sought, and stretches of it. Assumes nothing.
+-- What is sought, and stretches of it.
 --     none-in-gap          the empty range, as a gap, has no character
 --     ascii-within         ASCII alone, in ASCII and a gap
 --     first-within         the first of two ranges, in both

@@ -1,4 +1,4 @@
--- Plain characters: most of any text. The scanner's ground state appends them as they come, and the check accepts them. Assumes nothing.
+-- Plain characters: most of any text. The scanner's ground state appends them as they come, and the check accepts them.
 use Prim.Native.Nat.{ℕ}
 use mathlib.Core.Path.{_≡_}
 use mathlib.Core.Bool.{true, false}

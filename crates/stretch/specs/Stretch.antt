@@ -1,4 +1,4 @@
--- A stretch: what it is made of, and what the search for its end promises. Assumes nothing.
+-- A stretch: what it is made of, and what the search for its end promises.
 use Prim.Native.Nat.{ℕ, _-_, _≤_, _<_}
 use mathlib.Core.Path.{_≡_}
 use mathlib.Core.Bool.{Bool, true, not, _&&_, _||_}

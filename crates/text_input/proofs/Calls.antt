@@ -1,4 +1,4 @@
--- What an accepted call may rely on, and that answer, record and places are then the definition's. Assumes nothing.
+-- What an accepted call may rely on, and that answer, record and places are then the definition's.
 --     refused-is                  a scan that is refused
 --     counts, enough, accepted-is an accepted scan: the count stays within its limit, what it appends has room, its outcome
 --     finish-refused, finished-is a finish

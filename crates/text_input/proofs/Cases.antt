@@ -1,5 +1,4 @@
 -- Document 01, "Checked by hand", cases 1 to 12: the definitions give what the table of specs/Cases.antt says, by computing both.
--- Assumes nothing.
 --     cases    the table
 use mathlib.Core.Path.{_≡_, refl}
 use mathlib.Core.List.{map}

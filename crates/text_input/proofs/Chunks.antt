@@ -1,6 +1,6 @@
 -- A text comes in chunks: scans one after the other append what one scan of the joined chunks appends, and leave its record. A run
 -- goes over joined texts one after the other, and no step sees `at_start` and the count, in which alone a chunk's record differs
--- from the one before it. Assumes nothing.
+-- from the one before it.
 --     outs-append, ends-append             a run over joined texts
 --     marked, outs-marked, ends-marked     a run does not see `at_start` and the count
 --     chunks-spent, chunks-spent-next      chunks on a record that has had a scan

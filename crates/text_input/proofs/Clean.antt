@@ -1,6 +1,6 @@
 -- What a call appends is clean, and are characters. Idea: what a step appends is 0A, 20, 34F or the
 -- replacement of a character that the ground state took, which is no ESC, so that any test that these pass holds of the whole
--- queue. Assumes nothing.
+-- queue.
 --     other-no-escape                        the ground state never replaces ESC
 --     run-clean, scan-clean, finish-clean    `clean` (check_char/specs/Check.antt) holds of all that is appended: accepted by the
 --                                            check or one of those that it lists though nothing replaces them, and no ESC

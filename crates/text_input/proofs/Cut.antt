@@ -1,6 +1,6 @@
 -- The longest rest of a piece: a walk over a text from within a piece stops where the longest piece that the rules allow ends.
 -- The walk goes by the state and one character (`move`), and the test for the rest of a piece goes the same way (`agree`), so the
--- walk cannot stop too early nor too late. Assumes nothing.
+-- walk cannot stop too early nor too late.
 --     Inner, stateOf     the states within a piece, and the scanner's state for each
 --     kindOf             the kind of piece that a state is within
 --     tail, Move, move   the test for the rest of a piece from a state, and the walk

@@ -1,4 +1,4 @@
--- Laws on the definitions by cases that the steps' contracts cite. Assumes nothing.
+-- Laws on the definitions by cases that the steps' contracts cite.
 --     at-state                  `leaveOf` at a state that is known by an equation
 --     last-chars                the last of a replacement's characters is the same after any other
 --     last-append, last-three   the last character after two parts, after three

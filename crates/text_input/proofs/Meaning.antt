@@ -1,6 +1,6 @@
 -- What the scanner means: a text and a finish, from a record in a ground state, append the image of the text's reading, with 34F
 -- before it where a start is expected and it begins with none, and then what the finish adds; and the record after is known. By
--- induction on the reading, whose first piece is the one over which the scanner's steps go (proofs/Run.antt). Assumes nothing.
+-- induction on the reading, whose first piece is the one over which the scanner's steps go (proofs/Run.antt).
 --     ends-last, ends-start, ends-count   a run's last character; `at_start` and the count stay
 --     sectionAfter                        the image with the marks and the newline
 --     section-chars                       what a text and a finish append is this

@@ -1,5 +1,5 @@
 -- The sets of specs/Sets.antt at both sides of each of their bounds. Idea: the steps and the pieces share these sets, so that a wrong
--- bound would pass every proof that compares the two; here each is held by the characters themselves. Assumes nothing.
+-- bound would pass every proof that compares the two; here each is held by the characters themselves.
 --     pins    each row's set has the first list's characters, and none of the second's
 use Prim.Native.Nat.{ℕ}
 use mathlib.Core.Path.{_≡_, refl}

@@ -1,6 +1,6 @@
 -- Tests for the rest of a piece after its first characters, and that they are the rules' own: what the rules (specs/Pieces.antt)
 -- allow passes the test, and what passes it they allow. Each test is a function of the characters, read from the left, so that a
--- walk over a text can follow it. Assumes nothing.
+-- walk over a text can follow it.
 --     nothing, runs, feeds, afterEsc ..   the tests
 --     runs-of, feeds-all, bracket-of      what the rules allow passes
 --     page-of, escape-of                  what passes is allowed

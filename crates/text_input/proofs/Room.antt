@@ -1,6 +1,6 @@
 -- What a run appends fits the places that its call asks for, from every record. Idea: what a record owes, a pending character or the
 -- guard of a start that is expected, is at most one character; a step, with what it leaves owed, costs at most three and what was
--- owed before it. Assumes nothing.
+-- owed before it.
 --     given-pending  what a step gives before the ground state takes its character is what was pending
 --     room           a run of n characters appends at most 3 × n + 1
 --     run-room       .. and so at most the places for n characters: none for an empty run

@@ -1,7 +1,6 @@
 -- The scanner over one piece: from within a piece its steps over the rest of the piece, and then on from the ground state, give the
 -- piece's image. The steps go the way of the walk (`move`, proofs/Cut.antt), which ends where the piece does. What comes after is
 -- kept as it is (`complete`), so that a character that is given late, for a pending 0D or page run, stands where it belongs.
--- Assumes nothing.
 --     at, Closed, complete   a record by its parts; what a text and a finish come to, from a record
 --     guard, expectAfter     the image after a mark of its start, and whether a start is expected after it
 --     told, onward           the image of a piece, then the rest of the text

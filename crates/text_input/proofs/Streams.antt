@@ -1,7 +1,6 @@
 -- What calls come to, from a fresh record: a whole text, in any chunks and finished once as end of file, gives the cleaned text of
 -- its reading; and a stream of chunks and finishes gives each section's image with what its finish adds. Each section is a run over
 -- the joined chunks (proofs/Chunks.antt), whose meaning is known (proofs/Meaning.antt), and the finish leaves a ground state again.
--- Assumes nothing.
 --     whole                       a whole text, in any chunks, finished once as end of file
 --     stream                      a stream from a fresh record
 --     stream-count                the count after a stream

@@ -1,6 +1,5 @@
 -- A stretch of characters that the scanner appends as they come: from the ground state, with no start expected, a newline or a plain
 -- character is its own output and leads back there. So a run of them is its own output, and only the last one sets the record.
--- Assumes nothing.
 --     keep-step                  one such character
 --     keeps-outs, keeps-ends     a run of them
 --     Keeps, keeps               a stretch of a chunk, by what was found

@@ -1,6 +1,6 @@
 -- Every text has exactly one reading. The first character says what a piece at its place is (`class`): a piece that may go on, of
 -- which `cut` gives the longest, or a piece of one character; so the first piece of a text is there and is the only one, and the
--- rest follows by the length. Assumes nothing.
+-- rest follows by the length.
 --     exists         a text has a reading
 --     unique         and no other
 --     class, kindC   what a first character begins

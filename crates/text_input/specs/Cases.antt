@@ -1,6 +1,6 @@
 -- "The first twelve are proved, with the page 0 1 0 377 (no nonstarters, 0..377 assigned); scans end as end of file." Document 01,
 -- "Checked by hand": the cases as a table, and what the calls' definitions give for a row. Both options are off. proofs/Cases.antt
--- proves that the two agree. Characters are hexadecimal. Assumes nothing.
+-- proves that the two agree. Characters are hexadecimal.
 use Prim.Native.Nat.{ℕ}
 use mathlib.Core.Bool.{true, false}
 use mathlib.Core.List.{List, [], _∷_}

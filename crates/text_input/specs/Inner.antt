@@ -1,5 +1,4 @@
 -- What the private functions of src/lib.rt that go by stretches answer. No entry's contract cites this file.
--- Assumes nothing.
 use Prim.Native.Nat.{ℕ, _+_, _≤_, _<_}
 use mathlib.Core.Bool.{Bool, true, false, not, _&&_}
 use mathlib.Core.List.{List}

@@ -1,4 +1,4 @@
--- The pieces of a text, its reading and its image: document 01, "Pieces of a text". Characters are hexadecimal. Assumes nothing.
+-- The pieces of a text, its reading and its image: document 01, "Pieces of a text". Characters are hexadecimal.
 use Prim.Native.Nat.{ℕ, _≤_}
 use mathlib.Core.Bool.{Bool, true, false, cond, not, _&&_, _||_}
 use mathlib.Core.List.{List, [], _∷_, _++_}

@@ -1,5 +1,5 @@
 -- The calls: a scan of a chunk and a finish, with what they answer, the record after and the lent places after, refused or not.
--- Document 01, "A chunk comes in", "A stream finishes" and "Refused ..". Assumes nothing.
+-- Document 01, "A chunk comes in", "A stream finishes" and "Refused ..".
 use Prim.Native.Nat.{ℕ, zero, suc, _+_, _*_}
 use mathlib.Core.Bool.{Bool, true, false, cond, not, _&&_, _||_}
 use mathlib.Core.List.{List, [], _∷_, _++_}

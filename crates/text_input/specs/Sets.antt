@@ -1,5 +1,5 @@
 -- The sets of characters that the steps (specs/Step.antt) and the pieces (specs/Pieces.antt) share. Document 01, "Pieces of a text".
--- proofs/Pins.antt holds each at its bounds, so that a wrong bound here is refused though both follow it. Assumes nothing.
+-- proofs/Pins.antt holds each at its bounds, so that a wrong bound here is refused though both follow it.
 use Prim.Native.Nat.{ℕ}
 use mathlib.Core.Bool.{Bool, _&&_, _||_}
 use lib.Dec.{eqb, leb}

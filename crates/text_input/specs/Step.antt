@@ -1,6 +1,6 @@
 -- One character in one state, as the `match` of `process_raw_string` in text_input.rs has it. Where the Rust goes round its inner
 -- loop, with the state set to `Ground`, the ground state takes the character here. Document 01, "A chunk comes in" and "Pieces of a
--- text". Assumes nothing.
+-- text".
 -- The states say what is pending. `Ground b`: nothing, and b says that a finish owes no 0A. `Cr`: 0D. `Ff`: a page run. The others an
 -- escape: `Esc` after 1B, `CsiStart` just after 1B `[`, `Csi` further on in it, `Osc` in a string begun by 1B `]`, `Linux` after
 -- 1B `[` `[`.

@@ -1,6 +1,6 @@
 -- Streams of accepted calls: chunks and finishes, and what they come to in terms of the pieces. Document 01, "A stream finishes".
 -- A stream here has any number of finishes, pushes among them, and the definitions say what each adds to the queue. Demand 3 is about
--- one finish with refused calls in between, for which `demand`, specs/Calls.antt, has a list of calls of its own. Assumes nothing.
+-- one finish with refused calls in between, for which `one_reading`, specs/Calls.antt, has a list of calls of its own.
 use Prim.Native.Nat.{ℕ}
 use mathlib.Core.Bool.{Bool, true, false, cond, not, _&&_}
 use mathlib.Core.List.{List, [], _∷_, _++_, flatten}

@@ -1,7 +1,7 @@
 // The scanner: ports text_input.rs. A chunk of characters comes in and its cleaned characters go to the queue (`scan`), and a stream
 // ends or is pushed (`finish`). The queue is a lent slice: each call writes from its first place on. The record is a value: each call
 // takes one and answers the one after it. A chunk goes by stretches that are copied (crate `stretch`), and by a step for any other
-// character. Filling bytes from the queue is the crate `text_fill`.
+// character. Filling bytes from the queue is the crate `text_input_fill`.
 //     step.rt    one character in one state: `process_raw_string` without its loop
 //     queue.rt   storing what a step or a finish appends
 mod queue;
@@ -96,7 +96,7 @@ pub struct Ran {
 }
 
 impl TextInput {
-    // The least size of a byte buffer to fill, which `text_fill` tests: 136.
+    // The least size of a byte buffer to fill, which `text_input_fill` tests: 136.
     pub const NORMALIZATION_BUFFER_SIZE: usize = unicode::NORMALIZATION_BUFFER_SIZE;
 
     // A record as first made.

@@ -1,5 +1,5 @@
 -- An answer can be read back from its numbers and from whether it tells the caller to abandon, so that no two answers list alike and
--- a contract on these is one on the answer itself. Each variant by itself, by computing. Assumes nothing.
+-- a contract on these is one on the answer itself. Each variant by itself, by computing.
 --     answer-back    of a flush or a close
 --     wrote-back     of a write
 use Prim.Native.Nat.{ℕ}

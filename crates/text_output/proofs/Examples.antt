@@ -1,6 +1,6 @@
 -- Lists of calls on a fresh writer, with the answers of the comparison's oracle, which is the original Rust with what document 01 adds:
 -- the definitions give the same, character by character of what is handed out or kept, by computing both. Writes of bytes are not
--- among them: their definition looks through all characters, which is too much to compute. Assumes nothing.
+-- among them: their definition looks through all characters, which is too much to compute.
 --     examples    the table
 use Prim.Native.Nat.{ℕ}
 use mathlib.Core.Bool.{Bool, cond}

@@ -1,5 +1,5 @@
 -- What a writer keeps goes out first with the next success, and stays kept under a refusal. Idea: no step changes the kept count, and a
--- write stores behind the kept places alone. Assumes nothing.
+-- write stores behind the kept places alone.
 --     mode-keeps          the steps of a write leave the kept count
 --     kept-first          .. in a write of characters
 --     kept-first-bytes    .. in a write of bytes

@@ -1,6 +1,6 @@
 -- A queue of writable characters that begins with a start and ends with 0A passes a fresh color writer as it passes a plain one, and a
 -- fresh CRLF writer with each part between 0A isolated alone. Idea: every part is stepped from after a newline, and the last part of
--- such a queue is empty, so the writer is after a newline again. Assumes nothing.
+-- such a queue is empty, so the writer is after a newline again.
 --     passes-color    such a queue passes a color writer
 --     passes-crlf     .. a CRLF writer
 use Prim.Native.Nat.{ℕ, _+_, _*_, _≤_}

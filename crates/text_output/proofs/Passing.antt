@@ -1,6 +1,6 @@
 -- A queue of writable characters that begins with a start and ends with 0A passes a fresh plain writer in one write, and the writer
 -- then closes. Idea: isolation puts in 34F alone, which is writable and a start, and none behind a last 0A, which is assigned.
--- proofs/Modes.antt has the other modes. Assumes nothing.
+-- proofs/Modes.antt has the other modes.
 --     startsWell           the first character is a start, if there is one
 --     endsWell             the last character is 0A; b where there is none
 --     starts-isolated      a run that starts well starts well isolated

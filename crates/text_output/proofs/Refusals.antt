@@ -1,5 +1,5 @@
 -- What each refusal leaves, for every record, page, input and places. Each answer of a definition lists its number, and so every sentence
--- that does not speak of this number asks for nothing, by computing. Assumes nothing.
+-- that does not speak of this number asks for nothing, by computing.
 --     write-leaves, write-bytes-leaves    what a write of characters, of bytes leaves
 --     flush-leaves, close-leaves          what a flush, a close leaves
 --     second-closes                       a second close after one refused by 11, 12 or 13 succeeds

@@ -1,6 +1,6 @@
 -- "Held counts the characters of an escape in progress, else 0.": every call on a sound record returns a sound one, refused or not, and
 -- `abandon` on any record. Idea: outside an escape nothing is held, and a step that holds one character more leads to a state that can
--- have it. Assumes nothing.
+-- have it.
 --     IsSound                                                     the record is sound
 --     write-sound, write-bytes-sound, flush-sound, close-sound    .. after each call on a sound one
 --     abandon-sound                                               .. after `abandon` on any

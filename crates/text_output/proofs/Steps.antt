@@ -1,5 +1,5 @@
 -- What every step leaves true of the writer, the steps of a write leave true, and a refused one is refused by 4 or 6. Idea: a step puts
--- the writer outside an escape, or has it hold one character more, or leaves it. Assumes nothing.
+-- the writer outside an escape, or has it hold one character more, or leaves it.
 --     StepRefusal    the numbers of a refused step
 --     Grows          the states in which one character more is held
 --     Holds          what some steps leave true

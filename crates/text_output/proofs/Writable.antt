@@ -1,5 +1,5 @@
 -- One run of characters that the check accepts, without ESC, goes through a writer outside an escape, in any mode. Idea: a step looks
--- at the mode at ESC alone and refuses 1A, which the check refuses too; 34F, which isolation puts in, is accepted. Assumes nothing.
+-- at the mode at ESC alone and refuses 1A, which the check refuses too; 34F, which isolation puts in, is accepted.
 --     writable               accepted by the check, and no ESC
 --     writable-of            a clean list with none of the excepted ones is writable
 --     groundOf, groundAfter  what stands last after a character, after some characters

@@ -1,4 +1,4 @@
--- Flush, close and abandon. Document 01, "Characters go out" and "Refused because of the state". Assumes nothing.
+-- Flush, close and abandon. Document 01, "Characters go out" and "Refused because of the state".
 use mathlib.Core.Bool.{true, false, cond}
 use mathlib.Core.List.{[], _∷_}
 use Rattle.text_output.specs.declared.Ground.the-variants.{Newline, ZwjOrPrepend, Other}

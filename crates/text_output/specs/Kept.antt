@@ -1,5 +1,5 @@
 -- What a write does with the characters that its writer keeps. Document 01, "Characters go out": they "stay kept and go out with the
--- next success". Assumes nothing.
+-- next success".
 use Prim.Native.Nat.{ℕ, _≤_, _<_}
 use mathlib.Core.List.{List, [], _∷_}
 use mathlib.Core.Path.{_≡_}

@@ -1,5 +1,5 @@
 -- What it is for a queue to pass a fresh writer in one write, and the writer then to close. Document 01, "Agreed between us" and
--- "Characters go out". Characters are hexadecimal. Assumes nothing.
+-- "Characters go out". Characters are hexadecimal.
 use Prim.Native.Nat.{ℕ, _≤_}
 use mathlib.Core.Bool.{false}
 use mathlib.Core.Path.{_≡_}

@@ -1,5 +1,5 @@
 -- What each refusal of a write, a flush or a close leaves, which places stay, and a second close. Document 01, "Refused because of the
--- state" and "Characters go out". Assumes nothing.
+-- state" and "Characters go out".
 use Prim.Native.Nat.{ℕ}
 use mathlib.Core.Bool.{Bool, true, false, cond, not, _&&_, _||_}
 use mathlib.Core.List.{List, [], _∷_}

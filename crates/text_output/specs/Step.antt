@@ -1,4 +1,4 @@
--- One character in one state, and a run of them: `state_machine_char` of text_output.rs. Characters are hexadecimal. Assumes nothing.
+-- One character in one state, and a run of them: `state_machine_char` of text_output.rs. Characters are hexadecimal.
 use Prim.Native.Nat.{ℕ, _+_}
 use mathlib.Core.Bool.{Bool, true, false, cond, _&&_, _||_}
 use mathlib.Core.List.{List, [], _∷_, _++_}

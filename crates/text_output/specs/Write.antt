@@ -1,5 +1,5 @@
 -- A write of characters and a write of bytes: what they answer, the record after and the lent places after, refused or not. Document
--- 01, "Characters go out", "Refused .."; `write_str` and `write` of text_output.rs. Characters are hexadecimal. Assumes nothing.
+-- 01, "Characters go out", "Refused .."; `write_str` and `write` of text_output.rs. Characters are hexadecimal.
 use Prim.Native.Nat.{ℕ, _+_, _*_}
 use mathlib.Core.Bool.{Bool, false, cond, not, _&&_}
 use mathlib.Core.List.{List, [], _∷_, map}

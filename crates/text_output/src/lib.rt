@@ -1,7 +1,7 @@
 // The writer: ports text_output.rs. Its record is a value, and the characters that it hands out stand in a lent slice: those kept
 // since the last success in the first places, and behind them those of the write.
 // The stream that the Rust writer holds is the caller's: a success says how many characters are handed out, and a refusal whether
-// the caller is to abandon the stream. The two writes are the crate `text_write`.
+// the caller is to abandon the stream. The two writes are the crate `text_output_write`.
 use check_char::BasicTextError;
 use unicode::BOM;
 ghost use mathlib.Core.Path.{_≡_};

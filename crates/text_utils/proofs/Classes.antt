@@ -1,4 +1,4 @@
--- The classes at the characters on which all above them rests. Assumes nothing.
+-- The classes at the characters on which all above them rests.
 --     one-char             being a character, as a range of one
 --     start-low            below 300 a start is a starter
 --     endsClear            no table that an end is tested by meets a span

@@ -1,6 +1,6 @@
 -- "In the grapheme and spacing-mark tables each list rises strictly and its ranges never overlap": one test that antt computes for
 -- each table, and the law of any rising list. The Rust's two tables that differ from Unicode's are Unicode's without the characters
--- that the Rust leaves out. Assumes nothing.
+-- that the Rust leaves out.
 --     TABLE-rises                        what `in_ranges` asks of the table
 --     strictly                           so every table, Unicode's and the Rust's, rises strictly, and its ranges never overlap
 --     no-cgj, no-cgj-rises               Grapheme_Extend without CGJ

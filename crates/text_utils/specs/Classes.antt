@@ -1,5 +1,5 @@
 -- The boundary classes: "Start and end as `is_basic_text_start`, `is_basic_text_end`" of internals/src/text_utils.rs, over the
--- properties of UAX #44 and the rules of UAX #29, Table 2. They are defined on every number. Assumes nothing.
+-- properties of UAX #44 and the rules of UAX #29, Table 2. They are defined on every number.
 use mathlib.Core.Bool.{Bool, not, cond, _&&_, _||_}
 use mathlib.Core.List.{List, [], _∷_}
 use Prim.Native.Nat.{ℕ}

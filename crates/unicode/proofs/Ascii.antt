@@ -1,4 +1,4 @@
--- A run of ASCII bytes is as many characters. Assumes nothing.
+-- A run of ASCII bytes is as many characters.
 --     to-here, to-more, to-both    the place that a search comes to: none passed, some passed behind it, two searches
 --     over                         the loops of `valid_prefix` and `decode_utf8`, after a character and a run behind it
 use Prim.Native.Nat.{ℕ, zero, suc, _+_, _-_, _≤_, _<_}

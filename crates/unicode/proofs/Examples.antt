@@ -1,5 +1,4 @@
 -- RFC 3629's own examples, both ways (section 7), and the invalid sequences that it names (sections 3, 4 and 10).
--- Assumes nothing.
 use Prim.Native.Nat.{ℕ}
 use mathlib.Core.Path.{_≡_, refl, sym}
 use mathlib.Core.Bool.{true}

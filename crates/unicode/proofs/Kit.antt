@@ -1,4 +1,4 @@
--- Going by cases on a test. Assumes nothing.
+-- Going by cases on a test.
 --     by, by-lt     a fact by the two cases of a flag, of an order
 --     split         a fact of a `cond` by its two cases
 --     never         what follows from a contradiction

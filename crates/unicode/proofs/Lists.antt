@@ -1,4 +1,4 @@
--- Stores one after the other. Assumes nothing.
+-- Stores one after the other.
 --     sets-append   a run of stores in two parts
 --     sets-filled   a run of stores from the first place on
 --     sets-three    .. in three parts

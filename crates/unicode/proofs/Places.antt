@@ -1,4 +1,4 @@
--- A property of every place from one up to another. Assumes nothing.
+-- A property of every place from one up to another.
 --     none       no place
 --     more       one place more
 --     joined     two stretches of places, one behind the other

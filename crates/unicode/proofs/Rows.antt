@@ -1,4 +1,4 @@
--- Characters and the rows of RFC 3629's table. Assumes nothing.
+-- Characters and the rows of RFC 3629's table.
 --     char-lt, char-gap      a character is below 110000, and no surrogate
 --     char-low, char-high    what is below D800, or from E000 to 10FFFF, is a character
 --     row1 .. row4           the encoding, by the row in which c stands

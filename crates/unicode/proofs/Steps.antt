@@ -1,4 +1,4 @@
--- The step finds a character exactly where its encoding stands. Assumes nothing.
+-- The step finds a character exactly where its encoding stands.
 -- The code's tests, as the function `machine` on lists, find each encoding that stands (`complete`), and nothing else
 -- (`sound`). So no two characters stand at one place, and the first found by `utf8StepOf` is the one.
 --     step-exactly    the step answers c and the place after it exactly where c stands

@@ -1,4 +1,4 @@
--- Texts: the longest valid prefix, the two round trips, and the loops that read one. Assumes nothing.
+-- Texts: the longest valid prefix, the two round trips, and the loops that read one.
 -- `charsOf` goes on as the step says, so what it gives stands at the front (`runs`); any characters that stand there are
 -- a start of it (`starts`), so nothing longer stands there.
 --     longest, longest-only    `charsOf` gives the characters of the longest valid prefix, and nothing else does

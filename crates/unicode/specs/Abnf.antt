@@ -1,4 +1,4 @@
--- The grammar of RFC 3629, section 4, rule by rule: the byte sequences of one character. Assumes nothing.
+-- The grammar of RFC 3629, section 4, rule by rule: the byte sequences of one character.
 -- `grammar` (proofs/Grammar.antt) says that they are the encodings of the characters and no others.
 use Prim.Native.Nat.{ℕ, _≤_}
 use mathlib.Core.Path.{_≡_}

@@ -1,4 +1,4 @@
--- Characters, and lent places for them. Document 01, "Refused because of the input". Assumes nothing.
+-- Characters, and lent places for them. Document 01, "Refused because of the input".
 use mathlib.Core.Bool.{Bool, true, not, _&&_, _||_}
 use mathlib.Core.List.{List, [], _∷_, _++_}
 use Prim.Native.Nat.{ℕ}

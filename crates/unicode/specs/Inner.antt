@@ -1,5 +1,5 @@
 -- What the private functions of src/utf8.rt answer: the step, by the rows of RFC 3629, section 3, read byte by byte (document 01, "The
--- UTF-8 step answers an enum"), and runs of ASCII. No entry's contract cites this file. Assumes nothing.
+-- UTF-8 step answers an enum"), and runs of ASCII. No entry's contract cites this file.
 use Prim.Native.Nat.{ℕ, _+_, _-_, _*_, _≤_, _<_}
 use mathlib.Core.Path.{_≡_}
 use mathlib.Core.Bool.{cond, _&&_}

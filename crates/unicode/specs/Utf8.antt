@@ -1,6 +1,5 @@
 -- UTF-8 as RFC 3629 defines it: which bytes encode which character, and what reading and writing them gives.
 -- Decoding into places and encoding at a place are entries that document 01 does not name; encoding gives 1 before 8, as its entries do.
--- Assumes nothing.
 use Prim.Native.Nat.{ℕ, zero, suc, _+_, _/_, _%_, _≤_}
 use mathlib.Core.Path.{_≡_}
 use mathlib.Core.Bool.{Bool, true, false, cond, not, _&&_}

@@ -1,5 +1,5 @@
 -- `page::assigned_range` meets its contract: an accepted page has the right length, its groups rise, and the parts that are searched
--- are those of the definition. Assumes nothing.
+-- are those of the definition.
 use borrow.Author.Needs.{needs}
 use Rattle.page.specs.Page.{assigned}
 use Rattle.page.proofs.PageLaws.{facts-of-accepted}

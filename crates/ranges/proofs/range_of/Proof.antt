@@ -1,5 +1,5 @@
 -- `ranges::range_of` meets its contract. The loop's invariant: every range before `lo` ends before c, and the one at `hi`, if there is
--- one, does not. Where the two meet is the first range that does not end before c, and `found-at` says what that is worth. Assumes nothing.
+-- one, does not. Where the two meet is the first range that does not end before c, and `found-at` says what that is worth.
 use mathlib.Core.Path.{_≡_}
 use mathlib.Core.List.{List}
 use Prim.Native.Nat.{ℕ, _+_, _-_, _/_, _≤_, _<_}

@@ -6,7 +6,7 @@ use denote.Ref.{now}
 use lib.ListN.{length}
 use Rattle.isolate_unassigned.specs.Isolate.{lastOwed}
 use Rattle.text_output.specs.Step.{stepsOf}
-use Rattle.text_write.specs.Inner.{writerAt, pushed}
+use Rattle.text_output_write.specs.Inner.{writerAt, pushed}
 use Rattle.basic_text.proofs.Moved.{moved, moved-at, moved-few, finish-few, own-writer, own-at}
 use borrow.Author.Needs.{needs}
 use Rattle.basic_text.proofs.writing.finish_bytes.Statement.{statement}

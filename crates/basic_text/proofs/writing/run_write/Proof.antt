@@ -1,4 +1,4 @@
--- `run_write` meets its contract. The loop's invariant is that of `run_bytes` of text_write, on the queue's numbers; the bytes past
+-- `run_write` meets its contract. The loop's invariant is that of `run_bytes` of text_output_write, on the queue's numbers; the bytes past
 -- them stay. The measure is how many bytes are left.
 use Prim.Native.Nat.{_-_}
 use mathlib.Core.Path.{_≡_, refl, sym, _∙_}
@@ -8,9 +8,9 @@ use lib.ListN.{length}
 use borrow.Author.Needs.{needs}
 use Rattle.unicode.specs.Utf8.{charsOf}
 use Rattle.unicode.proofs.Texts.{step-on}
-use Rattle.text_write.specs.Inner.{writerAt}
-use Rattle.text_write.proofs.Rest.{run-rest}
-use Rattle.text_write.proofs.Runs.{GoingBytes, begin, again, stopped, ended, turn-room, finish-room, left-begin, left-on, left-stop}
+use Rattle.text_output_write.specs.Inner.{writerAt}
+use Rattle.text_output_write.proofs.Rest.{run-rest}
+use Rattle.text_output_write.proofs.Runs.{GoingBytes, begin, again, stopped, ended, turn-room, finish-room, left-begin, left-on, left-stop}
 use Rattle.basic_text.specs.Exports.{numbersOf}
 use Rattle.basic_text.specs.Inner.{tail}
 use Rattle.basic_text.proofs.writing.run_write.Statement.{statement}

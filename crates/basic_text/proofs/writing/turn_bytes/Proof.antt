@@ -3,7 +3,7 @@ use Prim.Native.Nat.{_≤_}
 use native.Mathlib.Omega.{arith}
 use denote.Ref.{now}
 use lib.ListN.{length}
-use Rattle.text_write.specs.Inner.{writerAt, pushed, turnOf}
+use Rattle.text_output_write.specs.Inner.{writerAt, pushed, turnOf}
 use Rattle.basic_text.proofs.Moved.{moved, moved-at, moved-few, turn-few, own-writer, own-at}
 use borrow.Author.Needs.{needs}
 use Rattle.basic_text.proofs.writing.turn_bytes.Statement.{statement}

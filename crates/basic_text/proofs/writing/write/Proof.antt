@@ -9,7 +9,7 @@ use Rattle.unicode.specs.Utf8.{charsOf}
 use Rattle.unicode.proofs.Texts.{longest}
 use Rattle.text_output.specs.Writer.{BytesOutcome}
 use Rattle.text_output.specs.Write.{taking}
-use Rattle.text_write.proofs.Entries.{bytes-refused, let-through, bytes-run, write-ends, end-anywhere, place-sound, place-fits, same-end, taken, refused-anywhere}
+use Rattle.text_output_write.proofs.Entries.{bytes-refused, let-through, bytes-run, write-ends, end-anywhere, place-sound, place-fits, same-end, taken, refused-anywhere}
 use Rattle.basic_text.specs.Exports.{numbersOf, withNumbers}
 use Rattle.basic_text.proofs.Laws.{Bytes, length-numbers, with-all}
 use Rattle.basic_text.proofs.Moved.{with-tail}

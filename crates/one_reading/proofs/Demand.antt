@@ -1,0 +1,93 @@
+-- DEMAND 3. A list of calls comes to scans of the accepted chunks and a finish (proofs/Listed.antt), these to the cleaned text of the
+-- one reading (`whole`, `exists`, `unique` of text_input), and that is what the writers let through and close on (proofs/Holds.antt;
+-- `passes-plain`, `passes-color`, `passes-crlf` of text_output).
+--     demand3          the theorem
+--     passes-others    the queue passes the color and the CRLF writer too
+use Prim.Native.Nat.{ℕ}
+use native.Mathlib.Nat.{zero-add}
+use mathlib.Core.Bool.{true}
+use mathlib.Core.List.{List, flatten}
+use mathlib.Core.Path.{_≡_, _∙_}
+use lib.ListN.{length}
+use Rattle.unicode.specs.Chars.{areChars}
+use Rattle.page.specs.Page.{accepted}
+use Rattle.check_char.specs.Check.{clean, all}
+use Rattle.isolate_unassigned.specs.Isolate.{isolateOf}
+use Rattle.text_input.specs.declared.Options.{Options}
+use Rattle.text_input.specs.Scan.{Outcome, fresh}
+use Rattle.text_input.specs.Pieces.{Piece, Reading, cleaned}
+use Rattle.text_input.proofs.Unique.{exists, unique}
+use Rattle.text_input.proofs.Streams.{whole}
+use Rattle.text_output.specs.declared.Mode.the-variants.{Plain}
+use Rattle.text_output.specs.Passing.{PassesIn}
+use Rattle.text_output.proofs.Writable.{writable, writable-of}
+use Rattle.text_output.proofs.Passing.{startsWell, endsWell, passes-plain}
+use Rattle.text_output.proofs.Modes.{passes-color, passes-crlf}
+use Rattle.one_reading.specs.Calls.{Call, Seen, queueOf, recordAfter, acceptedFrom, acceptedChunks, textOf, FinishedOnce}
+use Rattle.one_reading.specs.Demand.{ExactlyOne, NoneExcepted, Promise, Demand3, Others, PassesOthers}
+use Rattle.one_reading.proofs.Holds.{cleaned-starts, cleaned-ends, whole-clean, whole-chars}
+use Rattle.one_reading.proofs.Listed.{queue-listed, count-listed, chars-listed}
+
+one-reading : (options : Options) (text : List ℕ) → ExactlyOne (List Piece) (λ (xs : List Piece). Reading options text xs)
+one-reading options text =
+    let r = exists options text in record { one = r .0; is = r .1; only = λ xs h. unique options text xs (r .0) h (r .1) }
+
+module _ (page : List ℕ) (good : accepted page ≡ true) (options : Options) (calls : List Call)
+    (once : FinishedOnce page options (acceptedFrom 0 calls)) (seen : List Outcome) (saw : Seen fresh calls seen) where
+  abbrev queue : List ℕ
+  queue = queueOf seen
+
+  image-is : (xs : List Piece) → Reading options (textOf calls) xs → queue ≡ cleaned page xs
+  unfolding textOf acceptedChunks
+  image-is xs read = queue-listed page options calls seen fresh saw once ∙ whole page good options (acceptedChunks calls) xs read
+
+  count-is : recordAfter fresh seen .count ≡ length (flatten (acceptedChunks calls))
+  unfolding acceptedChunks
+  count-is = count-listed calls fresh seen saw ∙ zero-add _
+
+  queue-clean : all clean queue ≡ true
+  queue-clean =
+      rw (queue-listed page options calls seen fresh saw once) (whole-clean page options fresh _ (chars-listed calls 0))
+
+  queue-chars : areChars queue ≡ true
+  queue-chars =
+      rw (queue-listed page options calls seen fresh saw once) (whole-chars page options fresh _ (chars-listed calls 0))
+
+  -- the reading of the text
+  abbrev pieces : List Piece
+  pieces = exists options (textOf calls) .0
+
+  queue-is : queue ≡ cleaned page pieces
+  queue-is = image-is pieces (exists options (textOf calls) .1)
+
+  queue-starts : startsWell page queue ≡ true
+  queue-starts = rw queue-is (cleaned-starts page good pieces)
+
+  queue-ends : endsWell true queue ≡ true
+  queue-ends = rw queue-is (cleaned-ends page pieces)
+
+  module _ (none : NoneExcepted queue) where
+    queue-writable : all writable queue ≡ true
+    queue-writable = writable-of queue queue-clean none
+
+    passes-is : PassesIn Plain page queue (isolateOf page queue)
+    passes-is = passes-plain page good queue queue-chars queue-writable queue-starts queue-ends
+
+    others : Others page queue
+    others =
+        record {
+          color = passes-color page good queue queue-chars queue-writable queue-starts queue-ends;
+          crlf = passes-crlf page good queue queue-chars queue-writable queue-starts queue-ends;
+        }
+
+  theorem : Promise page options calls queue (recordAfter fresh seen)
+  theorem =
+      record { reading = one-reading options; image = image-is; count = count-is; holds = queue-clean; passes = passes-is }
+
+-- THE THEOREM
+pub demand3 : Demand3
+demand3 page good options calls once seen saw = theorem page good options calls once seen saw
+
+-- BEYOND IT
+pub passes-others : PassesOthers
+passes-others page good options calls once seen saw none = others page good options calls once seen saw none

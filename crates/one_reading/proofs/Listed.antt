@@ -1,0 +1,172 @@
+-- A list of calls, refused ones in between, comes to scans of the accepted chunks and a finish. A call is accepted exactly where its
+-- refusal's number is 0, and what the definition of the call then gives is what these scans and this finish give; a refused call
+-- gives the record back. So it goes by the list, with the record's count for the characters accepted so far.
+--     queue-listed    the queue is what scans of the accepted chunks and the finish append
+--     count-listed    the count is the number of characters in the accepted chunks, whatever the calls bring
+--     chars-listed    the accepted chunks are characters
+use Prim.Native.Nat.{ℕ, _+_}
+use mathlib.Core.Bool.{Bool, true, false, cond}
+use mathlib.Core.List.{List, [], _∷_, _++_, append-assoc, append-nil, flatten}
+use mathlib.Core.Path.{_≡_, refl, sym, _∙_}
+use native.Mathlib.Omega.{arith}
+use lib.Dec.{eqb, ltb}
+use lib.ListN.{length, drop, length-append}
+use lib.Seq.{take-append-seam}
+use borrow.Author.Tests.{eqb-true}
+use Rattle.unicode.specs.Chars.{areChars, filled}
+use Rattle.page.specs.Page.{accepted}
+use Rattle.text_input.specs.declared.Options.{Options}
+use Rattle.text_input.specs.declared.TextInput.{TextInput}
+use Rattle.text_input.specs.Scan.{Outcome, refused, written, wroteIn, refusalOf, scanChars, scanNext, scanOf, finishChars, finishNext, finishOf, opened, skipped}
+use Rattle.text_input.specs.Streams.{scansChars, scansNext}
+use Rattle.text_input.proofs.Meaning.{ends-count}
+use Rattle.one_reading.proofs.Holds.{chars-append}
+use Rattle.one_reading.specs.Calls.{Call, scan, finish, callOf, Seen, queueOf, recordAfter, refusalBy, countWith, acceptedFrom, chunksOf, FinishedOnce}
+
+-- ---- one call, by whether it is accepted
+-- what an accepted call gives: the record after, and what it appends
+abbrev nextOf : TextInput → Call → TextInput
+nextOf r (scan p o chunk places) = scanNext p o r chunk
+nextOf r (finish eof places) = finishNext r eof
+
+abbrev charsOf : TextInput → Call → List ℕ
+charsOf r (scan p o chunk places) = scanChars p o r chunk
+charsOf r (finish eof places) = finishChars r eof
+
+abbrev lent : Call → List ℕ
+lent (scan p o chunk places) = places
+lent (finish eof places) = places
+
+abbrev outcomeBy : Bool → TextInput → Call → Outcome
+outcomeBy b r c = cond b (written (nextOf r c) (charsOf r c) (lent c)) (refused r (refusalBy (r .count) c) (lent c))
+
+finish-is : (b : Bool) (r : TextInput) (eof : Bool) (places : List ℕ) →
+    cond b (refused r 8 places) (written (finishNext r eof) (finishChars r eof) places)
+    ≡ cond (eqb (cond b 8 0) 0) (written (finishNext r eof) (finishChars r eof) places) (refused r (cond b 8 0) places)
+finish-is true r eof places = refl
+finish-is false r eof places = refl
+
+call-is : (r : TextInput) (c : Call) → callOf r c ≡ outcomeBy (eqb (refusalBy (r .count) c) 0) r c
+call-is r (scan p o chunk places) = unfold scanOf in refl
+call-is r (finish eof places) = unfold finishOf in finish-is (ltb (length places) 2) r eof places
+
+wrote-is : (out places : List ℕ) → wroteIn (0 ∷ length out ∷ []) (filled out places) ≡ out
+wrote-is out places = take-append-seam out (drop (length out) places)
+
+-- the count after an accepted call
+next-count : (r : TextInput) (c : Call) → nextOf r c .count ≡ countWith (r .count) c
+next-count r (scan p o chunk places) = ends-count p o (opened r (length chunk)) (drop (skipped r chunk) chunk)
+next-count r (finish eof places) = refl
+
+-- the accepted calls of a list whose first is accepted or not
+abbrev leftBy : Bool → ℕ → Call → List Call → List Call
+leftBy b n c cs = cond b (c ∷ acceptedFrom (countWith n c) cs) (acceptedFrom n cs)
+
+cons-nil : {A : Type 0} {P : Type 0} (x : A) (l : List A) → x ∷ l ≡ [] → P
+cons-nil x l h = let z : _≡_ {A = ℕ} 0 1 = cc in let e : ⊥ = omega arith in absurd e
+
+-- ---- the count
+count-by : (b : Bool) (c : Call) (cs : List Call) (r : TextInput) (seen : List Outcome) →
+    ((n : TextInput) → Seen n cs seen → recordAfter n seen .count ≡ n .count + length (flatten (chunksOf (acceptedFrom (n .count) cs)))) →
+    Seen (outcomeBy b r c .next) cs seen →
+    recordAfter (outcomeBy b r c .next) seen .count ≡ r .count + length (flatten (chunksOf (leftBy b (r .count) c cs)))
+unfolding flatten
+count-by true (scan p o chunk places) cs r seen ih h =
+    let more = flatten (chunksOf (acceptedFrom (r .count + length chunk) cs)) in
+    let e = next-count r (scan p o chunk places) in
+    let g : recordAfter (scanNext p o r chunk) seen .count ≡ r .count + length chunk + length more = rw e at (ih (scanNext p o r chunk) h) in
+    omega (arith, g, length-append chunk more)
+count-by true (finish eof places) cs r seen ih h = ih (finishNext r eof) h
+count-by false c cs r seen ih h = ih r h
+
+pub count-listed : (calls : List Call) (r : TextInput) (seen : List Outcome) → Seen r calls seen →
+    recordAfter r seen .count ≡ r .count + length (flatten (chunksOf (acceptedFrom (r .count) calls)))
+unfolding recordAfter acceptedFrom flatten
+count-listed [] r [] h = omega arith
+count-listed [] r (s ∷ seen) h = absurd h
+count-listed (c ∷ cs) r [] h = absurd h
+count-listed (c ∷ cs) r (s ∷ seen) h =
+    let e : s ≡ outcomeBy (eqb (refusalBy (r .count) c) 0) r c = h .0 ∙ call-is r c in
+    rw e (count-by (eqb (refusalBy (r .count) c) 0) c cs r seen (λ n g. count-listed cs n seen g) (rw e at (h .1)))
+
+-- ---- the accepted chunks are characters
+-- a scan that nothing refuses is one of characters
+zero-chars : (count n room : ℕ) (page chars : Bool) → refusalOf count page chars n room ≡ 0 → chars ≡ true
+unfolding refusalOf
+zero-chars count n room true true h = refl
+zero-chars count n room true false h = let e : ⊥ = omega (arith, h) in absurd e
+zero-chars count n room false chars h = let e : ⊥ = omega (arith, h) in absurd e
+
+chars-by : (b : Bool) (n : ℕ) (c : Call) (cs : List Call) → eqb (refusalBy n c) 0 ≡ b →
+    ((m : ℕ) → areChars (flatten (chunksOf (acceptedFrom m cs))) ≡ true) → areChars (flatten (chunksOf (leftBy b n c cs))) ≡ true
+unfolding flatten
+chars-by true n (scan p o chunk places) cs e ih =
+    chars-append chunk (flatten (chunksOf (acceptedFrom (n + length chunk) cs)))
+    (zero-chars n (length chunk) (length places) (accepted p) (areChars chunk) (eqb-true _ 0 e)) (ih (n + length chunk))
+chars-by true n (finish eof places) cs e ih = ih n
+chars-by false n c cs e ih = ih n
+
+pub chars-listed : (calls : List Call) (n : ℕ) → areChars (flatten (chunksOf (acceptedFrom n calls))) ≡ true
+unfolding acceptedFrom flatten
+chars-listed [] n = refl
+chars-listed (c ∷ cs) n = chars-by (eqb (refusalBy n c) 0) n c cs refl (λ m. chars-listed cs m)
+
+-- ---- where no call is accepted, nothing is written
+none-by : (b : Bool) (c : Call) (cs : List Call) (r : TextInput) (seen : List Outcome) → leftBy b (r .count) c cs ≡ [] →
+    (acceptedFrom (r .count) cs ≡ [] → Seen r cs seen → queueOf seen ≡ []) → Seen (outcomeBy b r c .next) cs seen →
+    wroteIn (outcomeBy b r c .numbers) (outcomeBy b r c .places) ++ queueOf seen ≡ []
+none-by true c cs r seen h ih g = cons-nil c (acceptedFrom (countWith (r .count) c) cs) h
+none-by false c cs r seen h ih g = ih h g
+
+none-listed : (calls : List Call) (r : TextInput) (seen : List Outcome) → Seen r calls seen → acceptedFrom (r .count) calls ≡ [] →
+    queueOf seen ≡ []
+unfolding queueOf acceptedFrom
+none-listed [] r [] h n = refl
+none-listed [] r (s ∷ seen) h n = absurd h
+none-listed (c ∷ cs) r [] h n = absurd h
+none-listed (c ∷ cs) r (s ∷ seen) h n =
+    let e : s ≡ outcomeBy (eqb (refusalBy (r .count) c) 0) r c = h .0 ∙ call-is r c in
+    rw e (none-by (eqb (refusalBy (r .count) c) 0) c cs r seen n (λ m g. none-listed cs r seen g m) (rw e at (h .1)))
+
+-- ---- the queue
+module _ (page : List ℕ) (options : Options) where
+  -- what scans of these chunks and a finish as end of file append
+  abbrev pub wholeFrom : TextInput → List (List ℕ) → List ℕ
+  wholeFrom r ts = scansChars page options r ts ++ finishChars (scansNext page options r ts) true
+
+  abbrev Queued : List Call → List Outcome → Type 0
+  Queued cs seen = (r : TextInput) → Seen r cs seen → FinishedOnce page options (acceptedFrom (r .count) cs) →
+      queueOf seen ≡ wholeFrom r (chunksOf (acceptedFrom (r .count) cs))
+
+  scan-queued : (chunk places : List ℕ) (cs : List Call) (seen : List Outcome) (r : TextInput) → Queued cs seen →
+      Seen (scanNext page options r chunk) cs seen → FinishedOnce page options (acceptedFrom (r .count + length chunk) cs) →
+      scanChars page options r chunk ++ queueOf seen ≡ wholeFrom r (chunk ∷ chunksOf (acceptedFrom (r .count + length chunk) cs))
+  unfolding scansChars scansNext
+  scan-queued chunk places cs seen r ih g h =
+      let next = scanNext page options r chunk in
+      let ts = chunksOf (acceptedFrom (r .count + length chunk) cs) in
+      let k : next .count ≡ r .count + length chunk = next-count r (scan page options chunk places) in
+      let e : queueOf seen ≡ wholeFrom next ts = rw k at (ih next g (rw k h)) in
+      rw e (sym (append-assoc (scanChars page options r chunk) (scansChars page options next ts) (finishChars (scansNext page options next ts) true)))
+
+  queue-by : (b : Bool) (c : Call) (cs : List Call) (seen : List Outcome) (r : TextInput) → Queued cs seen →
+      Seen (outcomeBy b r c .next) cs seen → FinishedOnce page options (leftBy b (r .count) c cs) →
+      wroteIn (outcomeBy b r c .numbers) (outcomeBy b r c .places) ++ queueOf seen ≡ wholeFrom r (chunksOf (leftBy b (r .count) c cs))
+  queue-by true (scan p o chunk places) cs seen r ih g h =
+      let e : p ≡ page = h .0 in
+      let d : o ≡ options = h .1 in
+      rw (e, d, wrote-is (scanChars page options r chunk) places) (scan-queued chunk places cs seen r ih (rw (e, d) at g) (h .2))
+  queue-by true (finish eof places) cs seen r ih g h =
+      let e : eof ≡ true = h .0 in
+      let n : queueOf seen ≡ [] = none-listed cs (finishNext r eof) seen g (h .1) in
+      rw (e, wrote-is (finishChars r true) places, n, h .1) (unfold scansChars scansNext in append-nil (finishChars r true))
+  queue-by false c cs seen r ih g h = ih r g h
+
+  pub queue-listed : (calls : List Call) (seen : List Outcome) → Queued calls seen
+  unfolding queueOf acceptedFrom
+  queue-listed [] [] r h f = absurd f
+  queue-listed [] (s ∷ seen) r h f = absurd h
+  queue-listed (c ∷ cs) [] r h f = absurd h
+  queue-listed (c ∷ cs) (s ∷ seen) r h f =
+      let e : s ≡ outcomeBy (eqb (refusalBy (r .count) c) 0) r c = h .0 ∙ call-is r c in
+      rw e (queue-by (eqb (refusalBy (r .count) c) 0) c cs seen r (queue-listed cs seen) (rw e at (h .1)) f)

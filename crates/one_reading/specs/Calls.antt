@@ -1,0 +1,84 @@
+-- A list of calls on a scanner's record, and what a caller sees of it. Document 01, "Agreed between us": "Demand 3 is one statement
+-- about the whole list of calls, and not a statement for each call."
+use Prim.Native.Nat.{ℕ, _+_}
+use mathlib.Core.Bool.{Bool, true, cond}
+use mathlib.Core.List.{List, [], _∷_, _++_, flatten}
+use mathlib.Core.Path.{_≡_}
+use lib.Dec.{eqb, ltb}
+use lib.ListN.{length}
+use Rattle.unicode.specs.Chars.{areChars}
+use Rattle.page.specs.Page.{accepted}
+use Rattle.text_input.specs.declared.Options.{Options}
+use Rattle.text_input.specs.declared.TextInput.{TextInput}
+use Rattle.text_input.specs.Scan.{Outcome, wroteIn, refusalOf, scanOf, finishOf}
+use Rattle.text_input.specs.Streams.{withoutBomFirst}
+
+-- ---- the calls
+-- a scan brings a page, options, a chunk and lent places; a finish says whether it is end of file, and brings lent places
+pub data Call : Type 0 where
+  scan : (page : List ℕ) → Options → (chunk places : List ℕ) → Call
+  finish : (eof : Bool) → (places : List ℕ) → Call
+
+-- what a call on a record returns and leaves: the contracts of `scan` and `finish`
+abbrev pub callOf : TextInput → Call → Outcome
+callOf r (scan page options chunk places) = scanOf r page options chunk places
+callOf r (finish eof places) = finishOf r eof places
+
+-- ---- what a caller sees
+-- for each call what it returned and left. "Each call gets the scanner record that the call before it returned, refused or not, and
+-- nobody else writes that record in between."
+abbrev pub Seen : TextInput → List Call → List Outcome → Type 0
+Seen r [] [] = Unit {0}
+Seen r [] (s ∷ seen) = ⊥
+Seen r (c ∷ calls) [] = ⊥
+Seen r (c ∷ calls) (s ∷ seen) = (s ≡ callOf r c) × Seen (s .next) calls seen
+
+-- "The queue joins what each accepted call had written when it returned.": a refused one wrote nothing
+unfoldable pub queueOf : List Outcome → List ℕ
+queueOf [] = []
+queueOf (s ∷ seen) = wroteIn (s .numbers) (s .places) ++ queueOf seen
+
+-- the record that the last call returned
+unfoldable pub recordAfter : TextInput → List Outcome → TextInput
+recordAfter r [] = r
+recordAfter r (s ∷ seen) = recordAfter (s .next) seen
+
+-- ---- which calls are accepted
+-- "The refusal conditions alone decide which calls are accepted, with the number of characters in the chunks accepted so far as the
+-- count." The number of the refusal, and 0 for none.
+abbrev pub refusalBy : ℕ → Call → ℕ
+refusalBy count (scan page options chunk places) = refusalOf count (accepted page) (areChars chunk) (length chunk) (length places)
+refusalBy count (finish eof places) = cond (ltb (length places) 2) 8 0
+
+-- the count with an accepted call's characters
+abbrev pub countWith : ℕ → Call → ℕ
+countWith count (scan page options chunk places) = count + length chunk
+countWith count (finish eof places) = count
+
+-- the accepted calls, where so many characters are accepted before them. "A refused call may bring any page, options, chunk and room;
+-- it adds nothing to text, queue or count and does not pass for the first call."
+unfoldable pub acceptedFrom : ℕ → List Call → List Call
+acceptedFrom count [] = []
+acceptedFrom count (c ∷ calls) =
+    cond (eqb (refusalBy count c) 0) (c ∷ acceptedFrom (countWith count c) calls) (acceptedFrom count calls)
+
+-- ---- the text
+abbrev pub chunksOf : List Call → List (List ℕ)
+chunksOf [] = []
+chunksOf (scan page options chunk places ∷ calls) = chunk ∷ chunksOf calls
+chunksOf (finish eof places ∷ calls) = chunksOf calls
+
+-- the accepted chunks
+unfoldable pub acceptedChunks : List Call → List (List ℕ)
+acceptedChunks calls = chunksOf (acceptedFrom 0 calls)
+
+-- they joined, without a U+FEFF that begins the first of them
+unfoldable pub textOf : List Call → List ℕ
+textOf calls = flatten (withoutBomFirst (acceptedChunks calls))
+
+-- ---- the streams of demand 3
+-- accepted calls that all use this page and these options, and whose one finish, as end of file, comes last
+abbrev pub FinishedOnce : List ℕ → Options → List Call → Type 0
+FinishedOnce page options [] = ⊥
+FinishedOnce page options (scan p o chunk places ∷ calls) = (p ≡ page) × (o ≡ options) × FinishedOnce page options calls
+FinishedOnce page options (finish eof places ∷ calls) = (eof ≡ true) × (calls ≡ [])

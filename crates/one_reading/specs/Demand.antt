@@ -1,0 +1,67 @@
+-- DEMAND 3: what a list of calls that is finished once, as end of file, comes to. Document 01, "Agreed between us", with "Pieces of a
+-- text". Last, beyond it, that its queue passes the writers of the other modes too.
+use Prim.Native.Nat.{ℕ}
+use mathlib.Core.Bool.{true, not}
+use mathlib.Core.List.{List, flatten}
+use mathlib.Core.Path.{_≡_}
+use lib.ListN.{length}
+use Rattle.page.specs.Page.{accepted}
+use Rattle.replace.specs.Table.{inSpans}
+use Rattle.check_char.specs.Check.{excepted, clean, all}
+use Rattle.isolate_unassigned.specs.Isolate.{isolateOf}
+use Rattle.text_input.specs.declared.Options.{Options}
+use Rattle.text_input.specs.declared.TextInput.{TextInput}
+use Rattle.text_input.specs.Scan.{Outcome, fresh}
+use Rattle.text_input.specs.Pieces.{Piece, Reading, cleaned}
+use Rattle.text_output.specs.declared.Mode.the-variants.{Plain, Crlf, Color}
+use Rattle.text_output.specs.Passing.{PassesIn, crlfOf}
+use Rattle.one_reading.specs.Calls.{Call, Seen, queueOf, recordAfter, acceptedFrom, acceptedChunks, textOf, FinishedOnce}
+
+-- there is one, and no other
+pub record ExactlyOne (A : Type 0) (P : A → Type 0) : Type 0 where
+  pub one : A
+  pub is : P one
+  pub only : (other : A) → P other → other ≡ one
+
+-- a queue holds none of 2126, 212A, 212B and the ideographs: "The ideographs excepted are those that `check_basic_text_char` lists."
+abbrev pub NoneExcepted : List ℕ → Type 0
+NoneExcepted queue = all (λ (c : ℕ). not (inSpans excepted c)) queue ≡ true
+
+-- what is promised of a page, options, calls, the queue and the record after the calls
+pub record Promise (page : List ℕ) (options : Options) (calls : List Call) (queue : List ℕ) (last : TextInput) : Type 0 where
+  -- "A reading of a text is a list of pieces that joined give it, each the longest these rules allow at its place.": every text has
+  -- exactly one
+  pub reading : (text : List ℕ) → ExactlyOne (List Piece) (λ (xs : List Piece). Reading options text xs)
+  -- "Demand 3 compares the queue with the image after these additions.": the queue is the cleaned text of the reading
+  pub image : (xs : List Piece) → Reading options (textOf calls) xs → queue ≡ cleaned page xs
+  -- "The record holds a 32-bit count of characters taken, dropped ones included.": those of the accepted chunks
+  pub count : last .count ≡ length (flatten (acceptedChunks calls))
+  -- the queue holds no ESC, and nothing that the check refuses but the excepted ones
+  pub holds : all clean queue ≡ true
+  -- holding none of these, it passes a plain writer: "The write and the close are on a writer record of their own, the close on the
+  -- one that the write returned." It hands out "the queue isolated as one run with the page."
+  pub passes : NoneExcepted queue → PassesIn Plain page queue (isolateOf page queue)
+
+-- for every accepted page, options, list of calls and what a caller sees of it, from a fresh record
+abbrev pub Demand3 : Type 0
+Demand3 =
+    (page : List ℕ) → accepted page ≡ true → (options : Options) →
+    (calls : List Call) → FinishedOnce page options (acceptedFrom 0 calls) →
+    (seen : List Outcome) → Seen fresh calls seen →
+    Promise page options calls (queueOf seen) (recordAfter fresh seen)
+
+-- ---- beyond demand 3: the writers of the other modes
+-- a queue passes them too
+pub record Others (page queue : List ℕ) : Type 0 where
+  -- isolated as one run, as it passes a plain writer
+  pub color : PassesIn Color page queue (isolateOf page queue)
+  -- "In CRLF mode each part between 0A is isolated alone and 0A gives 0D 0A."
+  pub crlf : PassesIn Crlf page queue (crlfOf page queue)
+
+-- for the same pages, options and lists of calls, where the queue holds none of the excepted ones
+abbrev pub PassesOthers : Type 0
+PassesOthers =
+    (page : List ℕ) → accepted page ≡ true → (options : Options) →
+    (calls : List Call) → FinishedOnce page options (acceptedFrom 0 calls) →
+    (seen : List Outcome) → Seen fresh calls seen →
+    NoneExcepted (queueOf seen) → Others page (queueOf seen)

@@ -1,0 +1,94 @@
+-- What the functions of one turn store, arm by arm.
+--     puts-two                    a step of the isolator that gives two puts 34F before the character
+--     joined, not-joined          34F put, and none
+--     no-sub, checked-same, accepted-step    a character that the check accepts is stepped as itself
+--     checked-sub, refused-stored            a refused one, 1A, stops
+--     turn-end, after-end, turn-on, after-on    a turn at 0A that ends a part, and at any other character
+use Prim.Native.Nat.{ℕ}
+use mathlib.Core.Path.{_≡_, refl, sym, _∙_, ap}
+use mathlib.Core.Bool.{Bool, true, false, _&&_}
+use mathlib.Core.List.{List, [], _∷_, _++_}
+use native.Mathlib.Nat.{add-zero}
+use lib.Dec.{eqb}
+use borrow.Author.Tests.{eqb-true}
+use Rattle.unicode.proofs.Kit.{by}
+use Rattle.check_char.specs.declared.BasicTextError.{BasicTextError}
+use Rattle.check_char.specs.declared.Checked.{Checked}
+use Rattle.check_char.specs.declared.Checked.the-variants.{Ok, Err}
+use Rattle.check_char.specs.Check.{reasonOf, errorNumbers, reasonNumbers, checkNumbers}
+use Rattle.check_char.proofs.Answers.{accepted, refused}
+use Rattle.isolate_unassigned.specs.declared.IsolateUnassigned.{IsolateUnassigned}
+use Rattle.isolate_unassigned.specs.declared.Isolated.{Isolated}
+use Rattle.isolate_unassigned.specs.declared.Isolated.the-variants.{One, Two}
+use Rattle.isolate_unassigned.specs.Isolate.{fresh, puts, after}
+use Rattle.isolate_unassigned.specs.Isolate.{isolateStepOf as isolatedBy}
+use Rattle.isolate_unassigned.specs.Meaning.{joiner}
+use Rattle.text_output.specs.declared.TextOutput.{TextOutput}
+use Rattle.text_output_write.specs.declared.store.Place.{Place}
+use Rattle.text_output_write.specs.declared.store.Stop.{Stop}
+use Rattle.text_output_write.specs.declared.store.Pushed.the-variants.{On, Stopped}
+use Rattle.text_output.specs.Step.{andThen, writeStepOf, stepsOf}
+use Rattle.text_output.specs.Write.{checked, putCrlf}
+use Rattle.text_output_write.specs.Inner.{writerAt, stored, stopNumbers, progress, refusedIn, turnOf, isolatorAfter}
+use Rattle.text_output_write.proofs.Rest.{step-error, steps-one, refused-stops, accepted-no-sub, given-joined}
+
+-- ---- what the isolator puts before
+abbrev pub two : Isolated → Bool
+two (One c next) = false
+two (Two j c next) = true
+
+pub puts-two : (p : List ℕ) (r : IsolateUnassigned) (c : ℕ) (s : Isolated) → isolatedBy p r c ≡ s → two s ≡ puts p r c
+unfolding isolatedBy
+puts-two p r c s e = sym (ap two e) ∙ by (puts p r c) (λ q. rw q refl) (λ q. rw q refl)
+
+-- ---- 34F, put or not
+module _ (w : Place) (escape out : List ℕ) where
+  pub joined : (put : Bool) → put ≡ true → stepsOf (writerAt w escape) [] (joiner put) ≡ writeStepOf (writerAt w escape) [] 0x34F
+  joined put e = rw e (steps-one (writerAt w escape) [] 0x34F)
+
+  pub not-joined : (put : Bool) → put ≡ false →
+      progress (On w) escape out ≡ stored (w .at) out (stepsOf (writerAt w escape) [] (joiner put))
+  unfolding stepsOf
+  not-joined put e = rw (e, add-zero) refl
+
+-- ---- the character, by what the check found
+module _ (c : ℕ) (found : Checked) (told : reasonNumbers found ≡ checkNumbers c) where
+  pub no-sub : found ≡ Ok → eqb c 0x1A ≡ false
+  no-sub e = accepted-no-sub c (eqb-true (reasonOf c) 0 (accepted c found told e))
+
+  pub checked-same : found ≡ Ok → c ≡ checked c
+  checked-same e = rw (accepted c found told e)
+
+  pub checked-sub : (r : BasicTextError) → found ≡ Err r → 0x1A ≡ checked c
+  checked-sub r e = rw (refused c found told r e)
+
+  pub accepted-step : (w : TextOutput) → found ≡ Ok → writeStepOf w (checkNumbers c) (checked c) ≡ writeStepOf w [] c
+  accepted-step w e = rw (← checked-same e) (step-error w (checkNumbers c) [] c (no-sub e))
+
+  pub refused-stored : (w : Place) (escape out : List ℕ) (r : BasicTextError) (stop : Stop) → found ≡ Err r →
+      stopNumbers stop ≡ 4 ∷ refusedIn (w .state) (errorNumbers r) →
+      progress (Stopped w stop) escape out ≡ stored (w .at) out (writeStepOf (writerAt w escape) (checkNumbers c) (checked c))
+  unfolding writerAt
+  refused-stored w escape out r stop e s =
+      let t : errorNumbers r ≡ checkNumbers c = rw e at told in
+      rw (← checked-sub r e, refused-stops (writerAt w escape) (checkNumbers c), add-zero, s, t) refl
+
+-- ---- the two ways of a turn
+module _ (crlf : Bool) (p : List ℕ) (w : TextOutput) (r : IsolateUnassigned) (c : ℕ) where
+  pub turn-end : crlf && eqb c 0x0A ≡ true → (owed : Bool) → owed ≡ r .«need_cgj» →
+      turnOf crlf p w r c ≡ andThen (stepsOf w [] (joiner owed)) putCrlf
+  unfolding turnOf
+  turn-end e owed o = rw (e, o) refl
+
+  pub after-end : crlf && eqb c 0x0A ≡ true → isolatorAfter crlf p r c ≡ fresh
+  unfolding isolatorAfter
+  after-end e = rw e refl
+
+  pub turn-on : crlf && eqb c 0x0A ≡ false → (put : Bool) → put ≡ puts p r (checked c) →
+      turnOf crlf p w r c ≡ stepsOf w (checkNumbers c) (joiner put ++ checked c ∷ [])
+  unfolding turnOf
+  turn-on e put o = rw (e, o, given-joined p r (checked c)) refl
+
+  pub after-on : crlf && eqb c 0x0A ≡ false → isolatorAfter crlf p r c ≡ after (isolatedBy p r (checked c))
+  unfolding isolatorAfter
+  after-on e = rw e refl

@@ -1,0 +1,25 @@
+-- `taking` meets its contract: an answer that hands out is the one that says 0.
+use mathlib.Core.Path.{refl}
+use borrow.Author.Needs.{needs}
+use Rattle.text_output_write.proofs.taking.Statement.{statement}
+use Rattle.text_output_write.proofs.taking.Tie as tie
+
+enum-told : tie.Need-enum-told
+enum-told c = search needs
+
+returns : tie.Need-returns
+returns c =
+    let e = c .enum-told .given .1 in (rw e refl, (refl, refl))
+
+returns-2 : tie.Need-returns-2
+returns-2 c =
+    let e = rw (c .enum-told2 .given .1) at (c .before .before .before .pre) in (rw (c .enum-told2 .given .1, ← e) refl, (refl, refl))
+
+returns-3 : tie.Need-returns-3
+returns-3 c =
+    let e = rw (c .enum-told3 .given .1) at (c .before .before .before .pre) in (rw (c .enum-told3 .given .1, ← e) refl, (refl, refl))
+
+pub taking-spec : {M : Type 1} → statement M
+taking-spec =
+    tie.close
+    (tie.spec enum-told (λ c. search needs) (λ c. search needs) (λ c. search needs) returns returns-2 returns-3 (λ c. (rw (c .enum-told4 .given .1) refl, (refl, refl))))
