@@ -12,24 +12,24 @@ use native.Mathlib.Omega.{arith}
 use lib.ListN.{length, take, drop, length-drop}
 use lib.Seq.{sets, take-all}
 use borrow.Author.Tests.{le-ltb}
-use Rattle.unicode.specs.Chars.{areChars, filled}
+use Rattle.unicode.specs.Chars.{areChars}
 use Rattle.page.specs.Page.{accepted}
-use Rattle.isolate_unassigned.specs.declared.Answer.the-variants.{Written, Refused}
-use Rattle.isolate_unassigned.specs.Isolate.{writtenNumbers}
+use Rattle.common.specs.declared.Answer.the-variants.{Written, Refused}
+use Rattle.common.specs.Answers.{writtenNumbers}
 use Rattle.text_input.specs.declared.Options.{Options}
 use Rattle.text_input.specs.declared.TextInput.{TextInput}
 use Rattle.text_input.specs.declared.Scanned.{Scanned}
 use Rattle.text_input.specs.Scan.{Outcome, outs, ends, refusalOf, scanRefusal, skipped, opened, outcome, scanOf, finishChars, finishNext, finishOf}
-use Rattle.unicode.proofs.Lists.{sets-filled}
+use Rattle.common.proofs.Lists.{rest-is}
 use Rattle.text_input.proofs.Room.{finish-room}
 use Rattle.text_input.proofs.Calls as calls
-use Rattle.basic_text.specs.Exports.{numbersOf, bytesOf, withNumbers}
+use Rattle.basic_text.specs.Exports.{numbersOf, bytesOf}
 use Rattle.basic_text.proofs.Laws.{Bytes, length-numbers, length-bytes, with-all, with-filled}
 use Rattle.basic_text.proofs.Stores.{stored-first}
 
 -- the answer s and the queue's bytes q are those of an outcome on the queue's numbers
 abbrev pub Answers : List ℕ → Outcome → Scanned → List ℕ → Type 0
-Answers queue whole s q = (outcome s (whole .places) ≡ whole) × (q ≡ withNumbers (whole .places) queue)
+Answers queue whole s q = (outcome s (whole .places) ≡ whole) × (q ≡ sets queue 0 (bytesOf (whole .places)))
 
 -- an outcome is its answer and record with its places
 with-places : (s : Scanned) (places : List ℕ) (whole : Outcome) → outcome s places ≡ whole → outcome s (whole .places) ≡ whole
@@ -39,20 +39,17 @@ with-places s places whole w = ap (λ (x : Outcome). outcome s (x .places)) (sym
 left-as-it-was : (queue : List ℕ) (s : Scanned) (whole : Outcome) → Bytes queue → outcome s (numbersOf queue) ≡ whole →
     Answers queue whole s queue
 left-as-it-was queue s whole k w =
-    (with-places s _ whole w, sym (with-all queue k) ∙ ap (λ (x : Outcome). withNumbers (x .places) queue) w)
+    (with-places s _ whole w, sym (with-all queue k) ∙ ap (λ (x : Outcome). sets queue 0 (bytesOf (x .places))) w)
 
 -- an outcome that stores numbers in the first places stores their bytes there
 first-filled : (queue out q : List ℕ) (s : Scanned) (whole : Outcome) → Bytes queue → 4 * length out ≤ length queue →
-    q ≡ filled (bytesOf out) queue → outcome s (filled out (numbersOf queue)) ≡ whole → Answers queue whole s q
+    q ≡ sets queue 0 (bytesOf out) → outcome s (sets (numbersOf queue) 0 out) ≡ whole → Answers queue whole s q
 first-filled queue out q s whole k room e w = (
   with-places s _ whole w,
-  e ∙ sym (with-filled out queue k (omega (arith, length-numbers queue))) ∙ ap (λ (x : Outcome). withNumbers (x .places) queue) w,
+  e ∙ sym (with-filled out queue k (omega (arith, length-numbers queue))) ∙ ap (λ (x : Outcome). sets queue 0 (bytesOf (x .places))) w,
 )
 
 -- ---- a scan
-rest : (l : List ℕ) (s : ℕ) → take (length l - s) (drop s l) ≡ drop s l
-rest l s = take-all (length l - s) (drop s l) (omega (arith, length-drop s l))
-
 -- the refusal's number n, 0 where there is none
 module _ (r : TextInput) (p : List ℕ) (o : Options) (chunk queue : List ℕ) (n : ℕ)
     (e : n ≡ refusalOf (r .count) (accepted p) (areChars (numbersOf chunk)) (length chunk / 4) (length queue / 4)) where
@@ -85,18 +82,18 @@ module _ (r : TextInput) (p : List ℕ) (o : Options) (chunk queue : List ℕ) (
         pub room : 4 * length (outs p o first (drop from (numbersOf chunk))) ≤ length queue
         room =
             let w = calls.enough r p o (numbersOf chunk) (numbersOf queue) n asked z from f first same in
-            omega (arith, rw rest at w, length-numbers queue)
+            omega (arith, rw rest-is at w, length-numbers queue)
 
         pub scan-accepted : Bytes queue → (k : ℕ) (next : TextInput) (q : List ℕ) →
             (k ≡ length (outs p o first (drop from (numbersOf chunk))))
             × ((next ≡ ends p o first (drop from (numbersOf chunk)))
-            × (q ≡ filled (bytesOf (outs p o first (drop from (numbersOf chunk)))) queue))
+            × (q ≡ sets queue 0 (bytesOf (outs p o first (drop from (numbersOf chunk))))))
             → Answers queue whole (record { answer = Written k; next = next }) q
         scan-accepted b k next q h =
             let out = outs p o first (drop from (numbersOf chunk)) in
             let w =
-            calls.accepted-is r p o (numbersOf chunk) (numbersOf queue) n asked z from f first same k next (filled out (numbersOf queue))
-            (rw rest (h .0, (h .1 .0, refl))) in
+            calls.accepted-is r p o (numbersOf chunk) (numbersOf queue) n asked z from f first same k next (sets (numbersOf queue) 0 out)
+            (rw rest-is (h .0, (h .1 .0, refl))) in
             first-filled queue out q (record { answer = Written k; next = next }) whole b room (h .1 .1) w
 
 -- ---- a finish
@@ -117,7 +114,7 @@ module _ (r : TextInput) (eof : Bool) (queue : List ℕ) where
     unfolding finishOf
     next-is = ap (λ (x : Outcome). x .next) e
 
-    places : two ≡ filled (finishChars r eof) (0 ∷ 0 ∷ [])
+    places : two ≡ sets (0 ∷ 0 ∷ []) 0 (finishChars r eof)
     unfolding finishOf
     places = ap (λ (x : Outcome). x .places) e
 
@@ -129,13 +126,13 @@ module _ (r : TextInput) (eof : Bool) (queue : List ℕ) where
       count = let g = rw h at listed in cc
 
       pub held : (n ≤ length two) × (take n two ≡ finishChars r eof)
-      held = stored-first (finishChars r eof) (0 ∷ 0 ∷ []) two n count places
+      held = stored-first (finishChars r eof) (0 ∷ 0 ∷ []) two n count (finish-room r eof) places
 
       module _ (room : 2 ≤ length queue / 4) where
         pub fits : 4 * (0 + n) ≤ length queue
         fits = omega (arith, count, finish-room r eof)
 
-        whole-finish : outcome s (filled (finishChars r eof) (numbersOf queue)) ≡ finishOf r eof (numbersOf queue)
+        whole-finish : outcome s (sets (numbersOf queue) 0 (finishChars r eof)) ≡ finishOf r eof (numbersOf queue)
         unfolding finishOf
         whole-finish =
             let two-places : 2 ≤ length (numbersOf queue) = omega (arith, length-numbers queue) in
@@ -147,6 +144,5 @@ module _ (r : TextInput) (eof : Bool) (queue : List ℕ) where
             let out = finishChars r eof in
             let enough : 4 * length out ≤ length queue = omega (arith, fits, count) in
             first-filled queue out q s (finishOf r eof (numbersOf queue)) k enough
-            (f ∙ ap (λ (l : List ℕ). sets queue 0 (bytesOf l)) (held .1)
-            ∙ sets-filled (bytesOf out) queue (omega (arith, length-bytes out)))
+            (f ∙ ap (λ (l : List ℕ). sets queue 0 (bytesOf l)) (held .1))
             whole-finish

@@ -13,9 +13,10 @@ use mathlib.Core.Path.{_≡_, refl, ap, sym, _∙_}
 use mathlib.Core.List.{List, [], _∷_, _++_}
 use native.Mathlib.Omega.{arith}
 use lib.ListN.{length, getD, take, drop}
-use Rattle.unicode.specs.Chars.{filled}
+use lib.Seq.{sets, length-sets}
+use Rattle.common.proofs.Lists.{sets-first}
 use Rattle.stretch.proofs.Parts.{cut}
-use Rattle.basic_text.specs.Exports.{numberOf, numbersOf, bytesOf, withNumbers}
+use Rattle.basic_text.specs.Exports.{numberOf, numbersOf, bytesOf}
 
 abbrev pub Bytes : List ℕ → Type 0
 Bytes bytes = (i : ℕ) → getD bytes i 0 < 256
@@ -98,24 +99,48 @@ module _ (a b c d : ℕ) (rest more : List ℕ) (ha : a < 256) (hb : b < 256) (h
       let ed : numberOf a b c d / 16777216 % 256 ≡ d = rw qd (omega arith) in
       rw (ea, eb, ec, ed)
 
-pub with-all : (queue : List ℕ) → Bytes queue → withNumbers (numbersOf queue) queue ≡ queue
-with-all [] k = refl
-with-all (a ∷ []) k = refl
-with-all (a ∷ b ∷ []) k = refl
-with-all (a ∷ b ∷ c ∷ []) k = refl
-with-all (a ∷ b ∷ c ∷ d ∷ rest) k =
+-- numbers' bytes, and behind them the bytes past so many numbers
+with-rest : List ℕ → List ℕ → List ℕ
+with-rest ns queue = bytesOf ns ++ drop (4 * length ns) queue
+
+all-is : (queue : List ℕ) → Bytes queue → with-rest (numbersOf queue) queue ≡ queue
+unfolding with-rest
+all-is [] k = refl
+all-is (a ∷ []) k = refl
+all-is (a ∷ b ∷ []) k = refl
+all-is (a ∷ b ∷ c ∷ []) k = refl
+all-is (a ∷ b ∷ c ∷ d ∷ rest) k =
     rw (four-more (length (numbersOf rest)))
     (back a b c d (numbersOf rest) (drop (4 * length (numbersOf rest)) rest) (k 0) (k 1) (k 2) (k 3)
-    ∙ ap (λ (l : List ℕ). a ∷ b ∷ c ∷ d ∷ l) (with-all rest (past-four a b c d rest k)))
+    ∙ ap (λ (l : List ℕ). a ∷ b ∷ c ∷ d ∷ l) (all-is rest (past-four a b c d rest k)))
+
+-- where there is room
+stores-rest : (ns queue : List ℕ) → 4 * length ns ≤ length queue → sets queue 0 (bytesOf ns) ≡ with-rest ns queue
+unfolding with-rest
+stores-rest ns queue h = rw (← (length-bytes ns)) (sets-first (bytesOf ns) queue (omega (arith, length-bytes ns)))
+
+pub with-all : (queue : List ℕ) → Bytes queue → sets queue 0 (bytesOf (numbersOf queue)) ≡ queue
+with-all queue k = stores-rest (numbersOf queue) queue (omega (arith, length-numbers queue)) ∙ all-is queue k
+
+first-is : (out queue : List ℕ) → Bytes queue → length out ≤ length (numbersOf queue) →
+    with-rest (out ++ drop (length out) (numbersOf queue)) queue ≡ with-rest out queue
+unfolding with-rest
+first-is [] queue k h = all-is queue k
+first-is (n ∷ out) [] k h = absurd (omega arith)
+first-is (n ∷ out) (a ∷ []) k h = absurd (omega arith)
+first-is (n ∷ out) (a ∷ b ∷ []) k h = absurd (omega arith)
+first-is (n ∷ out) (a ∷ b ∷ c ∷ []) k h = absurd (omega arith)
+first-is (n ∷ out) (a ∷ b ∷ c ∷ d ∷ rest) k h =
+    rw (four-more (length (out ++ drop (length out) (numbersOf rest))), four-more (length out))
+    (ap (λ (l : List ℕ). n % 256 ∷ n / 256 % 256 ∷ n / 65536 % 256 ∷ n / 16777216 % 256 ∷ l)
+    (first-is out rest (past-four a b c d rest k) (omega arith)))
 
 pub with-filled : (out queue : List ℕ) → Bytes queue → length out ≤ length (numbersOf queue) →
-    withNumbers (filled out (numbersOf queue)) queue ≡ filled (bytesOf out) queue
-with-filled [] queue k h = with-all queue k
-with-filled (n ∷ out) [] k h = absurd (omega arith)
-with-filled (n ∷ out) (a ∷ []) k h = absurd (omega arith)
-with-filled (n ∷ out) (a ∷ b ∷ []) k h = absurd (omega arith)
-with-filled (n ∷ out) (a ∷ b ∷ c ∷ []) k h = absurd (omega arith)
-with-filled (n ∷ out) (a ∷ b ∷ c ∷ d ∷ rest) k h =
-    rw (four-more (length (filled out (numbersOf rest))))
-    (ap (λ (l : List ℕ). n % 256 ∷ n / 256 % 256 ∷ n / 65536 % 256 ∷ n / 16777216 % 256 ∷ l)
-    (with-filled out rest (past-four a b c d rest k) (omega arith)))
+    sets queue 0 (bytesOf (sets (numbersOf queue) 0 out)) ≡ sets queue 0 (bytesOf out)
+with-filled out queue k h =
+    let ns = sets (numbersOf queue) 0 out in
+    let e = length-sets (numbersOf queue) 0 out in
+    stores-rest ns queue (omega (arith, e, length-numbers queue))
+    ∙ ap (λ (l : List ℕ). with-rest l queue) (sets-first out (numbersOf queue) h)
+    ∙ first-is out queue k h
+    ∙ sym (stores-rest out queue (omega (arith, length-numbers queue)))

@@ -13,11 +13,9 @@ use native.Mathlib.Nat.{zero-add}
 use native.Mathlib.Omega.{arith}
 use lib.ListN.{length, drop, length-append, length-drop}
 use lib.Seq.{sets, length-sets, drop-length}
-use Rattle.unicode.specs.Chars.{filled}
 use Rattle.text_input.specs.declared.Options.{Options}
 use Rattle.text_input.specs.declared.TextInput.{TextInput}
 use Rattle.text_input.specs.Scan.{outs, ends}
-use Rattle.unicode.proofs.Lists.{sets-filled}
 use Rattle.text_input.proofs.Chunks.{outs-append, ends-append}
 use Rattle.basic_text.specs.Exports.{bytesOf}
 use Rattle.basic_text.proofs.Laws.{length-bytes}
@@ -34,7 +32,7 @@ module _ (p : List ℕ) (o : Options) (cs : List ℕ) (from : ℕ) (queue₀ : L
     pub room : 4 * length all ≤ length queue₀
     pub count : k + length (outs p o r (drop i cs)) ≡ length all
     pub next : ends p o r (drop i cs) ≡ ends p o r₀ (drop from cs)
-    pub stored : sets queue (4 * k) (bytesOf (outs p o r (drop i cs))) ≡ filled (bytesOf all) queue₀
+    pub stored : sets queue (4 * k) (bytesOf (outs p o r (drop i cs))) ≡ sets queue₀ 0 (bytesOf all)
 
   pub begin : from ≤ length cs → 4 * length all ≤ length queue₀ → Going queue₀ r₀ 0 from
   begin low room =
@@ -44,11 +42,11 @@ module _ (p : List ℕ) (o : Options) (cs : List ℕ) (from : ℕ) (queue₀ : L
         room = room;
         count = rw zero-add;
         next = refl;
-        stored = sets-filled (bytesOf all) queue₀ (omega (arith, length-bytes all));
+        stored = refl;
       }
 
   module _ (queue : List ℕ) (r : TextInput) (k i : ℕ) (g : Going queue r k i) where
-    pub ended : length cs ≤ i → (k ≡ length all) × ((r ≡ ends p o r₀ (drop from cs)) × (queue ≡ filled (bytesOf all) queue₀))
+    pub ended : length cs ≤ i → (k ≡ length all) × ((r ≡ ends p o r₀ (drop from cs)) × (queue ≡ sets queue₀ 0 (bytesOf all)))
     ended past =
         let e : i ≡ length cs = omega (arith, g .low) in
         let n : drop i cs ≡ [] = rw (e, drop-length) in (

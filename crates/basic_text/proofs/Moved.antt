@@ -16,8 +16,8 @@ use lib.Dec.{leb}
 use lib.ListN.{length, take, drop, set}
 use lib.Seq.{sets, length-sets, drop-set-lt, length-take-le}
 use borrow.Author.Tests.{leb-true}
-use Rattle.unicode.proofs.Kit.{both-true}
-use Rattle.unicode.proofs.Lists.{sets-filled}
+use Rattle.common.proofs.Kit.{both-true}
+use Rattle.common.proofs.Lists.{drop-sets, take-first}
 use Rattle.isolate_unassigned.specs.declared.IsolateUnassigned.{IsolateUnassigned}
 use Rattle.isolate_unassigned.specs.Isolate.{lastOwed}
 use Rattle.isolate_unassigned.proofs.Laws.{lastOwed-size}
@@ -29,10 +29,10 @@ use Rattle.text_output.specs.Writer.{heldIn, sound}
 use Rattle.text_output.specs.Step.{Stepped, stepsOf}
 use Rattle.text_output_write.specs.Inner.{Progress, writerAt, pushed, stored, progress, turnOf}
 use Rattle.text_output_write.proofs.Stays.{steps-stay, turn-sound}
-use Rattle.basic_text.specs.Exports.{numberOf, numbersOf, bytesOf, withNumbers}
+use Rattle.basic_text.specs.Exports.{numberOf, numbersOf, bytesOf}
 use Rattle.basic_text.specs.Inner.{tail, atPlace, placeIn, behindOf}
 use Rattle.basic_text.proofs.Laws.{Bytes, four-more, length-numbers, length-bytes, with-all}
-use Rattle.basic_text.proofs.Stores.{sets-bytes, take-filled}
+use Rattle.basic_text.proofs.Stores.{sets-bytes}
 use Rattle.basic_text.proofs.Crossing.{Wide, wide-more, number-back}
 
 -- ---- one number
@@ -65,10 +65,6 @@ take-wide (suc n) (x ∷ ns) w (suc i) = take-wide n ns (wide-more x ns w) i
 pub take-fits : (k n : ℕ) (ns : List ℕ) (m : ℕ) → n ≤ length ns → k + n ≤ m → k + length (take n ns) ≤ m
 take-fits k n ns m h g = omega (arith, length-take-le n ns h)
 
-drop-sets : (n : ℕ) (l : List ℕ) (i : ℕ) (vs : List ℕ) → i + length vs ≤ n → drop n (sets l i vs) ≡ drop n l
-drop-sets n l i [] h = refl
-drop-sets n l i (v ∷ vs) h = drop-sets n (set l i v) (suc i) vs (omega arith) ∙ drop-set-lt n l i v (omega arith)
-
 pub tail-sets : (ns q : List ℕ) (k : ℕ) → k + length ns ≤ length (numbersOf q) → tail (sets q (4 * k) (bytesOf ns)) ≡ tail q
 tail-sets ns q k h =
     let q' = sets q (4 * k) (bytesOf ns) in
@@ -76,7 +72,7 @@ tail-sets ns q k h =
     omega (arith, length-numbers q', length-numbers q, length-sets q (4 * k) (bytesOf ns)) in
     rw e (drop-sets (4 * length (numbersOf q)) q (4 * k) (bytesOf ns) (omega (arith, length-bytes ns)))
 
-pub with-tail : (q q₀ : List ℕ) → Bytes q → length q ≡ length q₀ → tail q ≡ tail q₀ → q ≡ withNumbers (numbersOf q) q₀
+pub with-tail : (q q₀ : List ℕ) → Bytes q → length q ≡ length q₀ → tail q ≡ tail q₀ → q ≡ sets q₀ 0 (bytesOf (numbersOf q))
 with-tail q q₀ b l t =
     let e : length (numbersOf q) ≡ length (numbersOf q₀) = omega (arith, length-numbers q, length-numbers q₀) in
     sym (with-all q b) ∙ ap (λ (r : List ℕ). bytesOf (numbersOf q) ++ r) (rw (← e) at t)
@@ -109,8 +105,8 @@ module _ (x : Pushed) (escape few few₀ : List ℕ) (s : Stepped) (e : progress
 
   few-holds : length (pushed s) ≤ length few₀ → take (placeIn x .at) few ≡ pushed s
   few-holds h =
-      let p = sym (places-of x escape few) ∙ ap (λ (y : Progress). y .places) e ∙ sets-filled (pushed s) few₀ h in
-      rw (p, moved-at) (take-filled (pushed s) few₀ (length (pushed s)) refl)
+      let p = sym (places-of x escape few) ∙ ap (λ (y : Progress). y .places) e in
+      rw (p, moved-at) (take-first (pushed s) few₀ (length (pushed s)) refl h)
 
   pub moved : length (pushed s) ≤ length few₀ → (k : ℕ) (places₀ places : List ℕ) → places ≡ sets places₀ k (take (placeIn x .at) few) →
       progress (behindOf k x) escape places ≡ stored k places₀ s

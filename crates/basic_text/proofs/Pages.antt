@@ -9,8 +9,9 @@ use native.Mathlib.Nat.{sub-zero}
 use native.Mathlib.Omega.{arith}
 use lib.Dec.{eqb, leb}
 use lib.ListN.{length, take, drop}
+use lib.Seq.{sets}
 use borrow.Author.Tests.{eq-eqb, ne-eqb, le-leb, lt-leb, leb-false}
-use Rattle.unicode.proofs.Kit.{by}
+use Rattle.common.proofs.Kit.{by}
 use Rattle.page.specs.Page.{accepted, sized}
 use Rattle.page.proofs.PageLaws.{facts-of-accepted}
 use Rattle.text_input.specs.declared.Options.{Options}
@@ -23,7 +24,7 @@ use Rattle.text_output.specs.Writer.{BytesOutcome, bytesOutcome, sound}
 use Rattle.text_output.specs.Write.{writeRefusal, writeStrOf, writeOf}
 use Rattle.basic_text.specs.declared.Reply.{Reply}
 use Rattle.basic_text.specs.declared.WriteReply.{WriteReply}
-use Rattle.basic_text.specs.Exports.{numbersOf, pageOf, withNumbers, replyOf, writeReplyOf}
+use Rattle.basic_text.specs.Exports.{numbersOf, pageOf, replyOf, writeReplyOf, bytesOf}
 use Rattle.basic_text.specs.Inner.{longestPage, fitting}
 use Rattle.basic_text.proofs.Laws.{length-numbers}
 use Rattle.basic_text.proofs.Calls.{Answers}
@@ -79,10 +80,10 @@ pub scan-reply : (r s : TextInput) (o u : Options) (p all : List ℕ) (n : ℕ) 
     take n all ≡ fitting p → (x : Scanned) (q : List ℕ) (reply : Reply) →
     Answers queue (scanOf s (take (n - 0) (drop 0 all)) u chunk (numbersOf queue)) x q → reply ≡ replyOf (outcome x []) →
     (reply ≡ replyOf (scanOf r p o chunk (numbersOf queue)))
-    × (q ≡ withNumbers (scanOf r p o chunk (numbersOf queue) .places) queue)
+    × (q ≡ sets queue 0 (bytesOf (scanOf r p o chunk (numbersOf queue) .places)))
 scan-reply r s o u p all n chunk queue e f g x q reply a h =
     let w = scan-read r s o u p all n chunk (numbersOf queue) e f g in
-    (h ∙ ap replyOf (a .0 ∙ w), a .1 ∙ ap (λ (y : Outcome). withNumbers (y .places) queue) w)
+    (h ∙ ap replyOf (a .0 ∙ w), a .1 ∙ ap (λ (y : Outcome). sets queue 0 (bytesOf (y .places))) w)
 
 -- ---- a write
 -- by two pages that are not accepted a write is refused alike
@@ -99,10 +100,10 @@ write-read w v p all n bytes queue e g = rw (sub-zero, e, g) (by-fitting (λ x. 
 pub write-reply : (w v : TextOutput) (p all : List ℕ) (n : ℕ) (bytes queue : List ℕ) → v ≡ w → take n all ≡ fitting p →
     (x : WrittenBytes) (q : List ℕ) (reply : WriteReply) →
     (bytesOutcome x (numbersOf q) ≡ writeOf v (take (n - 0) (drop 0 all)) bytes (numbersOf queue))
-    × (q ≡ withNumbers (writeOf v (take (n - 0) (drop 0 all)) bytes (numbersOf queue) .outcome .places) queue) →
+    × (q ≡ sets queue 0 (bytesOf (writeOf v (take (n - 0) (drop 0 all)) bytes (numbersOf queue) .outcome .places))) →
     reply ≡ writeReplyOf (bytesOutcome x []) →
     (reply ≡ writeReplyOf (writeOf w p bytes (numbersOf queue)))
-    × (q ≡ withNumbers (writeOf w p bytes (numbersOf queue) .outcome .places) queue)
+    × (q ≡ sets queue 0 (bytesOf (writeOf w p bytes (numbersOf queue) .outcome .places)))
 write-reply w v p all n bytes queue e g x q reply a h =
     let is = write-read w v p all n bytes (numbersOf queue) e g in
-    (h ∙ ap writeReplyOf (a .0 ∙ is), a .1 ∙ ap (λ (y : BytesOutcome). withNumbers (y .outcome .places) queue) is)
+    (h ∙ ap writeReplyOf (a .0 ∙ is), a .1 ∙ ap (λ (y : BytesOutcome). sets queue 0 (bytesOf (y .outcome .places))) is)

@@ -1,5 +1,4 @@
 -- Runs of stores.
---     take-filled     the first places hold what filled them
 --     stored-first    what a call stored from the first place on is read back from there
 --     sets-bytes      the bytes of two lists of numbers, stored one after the other
 --     sets-next       one number's bytes after those of the numbers before it
@@ -8,22 +7,18 @@ use mathlib.Core.Path.{_≡_, sym, ap, _∙_}
 use mathlib.Core.List.{List, [], _∷_, _++_}
 use native.Mathlib.Omega.{arith}
 use native.Mathlib.Numerals.{add-one}
-use lib.ListN.{length, getD, take, drop, length-append}
-use lib.Seq.{sets, take-suc, take-at, length-take-le}
-use Rattle.unicode.specs.Chars.{filled}
-use Rattle.unicode.proofs.Lists.{sets-append}
+use lib.ListN.{length, getD, take}
+use lib.Seq.{sets, length-sets, take-suc, length-take-le}
+use Rattle.common.proofs.Lists.{sets-append, take-first}
 use Rattle.basic_text.specs.Exports.{bytesOf}
 use Rattle.basic_text.proofs.Laws.{bytes-append, length-bytes}
 
-pub take-filled : (vs l : List ℕ) (n : ℕ) → length vs ≡ n → take n (filled vs l) ≡ vs
-take-filled vs l n h = take-at vs (drop (length vs) l) n h
-
 -- l were the places, and `after` are the places after the call, which answered n
-pub stored-first : (out l after : List ℕ) (n : ℕ) → n ≡ length out → after ≡ filled out l →
+pub stored-first : (out l after : List ℕ) (n : ℕ) → n ≡ length out → length out ≤ length l → after ≡ sets l 0 out →
     (n ≤ length after) × (take n after ≡ out)
-stored-first out l after n e f = (
-  omega (arith, ap length f, length-append out (drop (length out) l)),
-  ap (take n) f ∙ take-filled out l n (sym e),
+stored-first out l after n e h f = (
+  omega (arith, ap length f, length-sets l 0 out),
+  ap (take n) f ∙ take-first out l n (sym e) h,
 )
 
 -- the bytes of xs and then those of ys, from place k on

@@ -7,11 +7,13 @@ use mathlib.Core.Bool.{Bool, true, false, cond, not}
 use mathlib.Core.List.{List, [], _∷_, _++_}
 use lib.Dec.{eqb}
 use lib.ListN.{length, drop, getD}
+use lib.Seq.{sets}
 use Rattle.text_input.specs.declared.State.{State}
 use Rattle.text_input.specs.declared.State.the-variants.{Ground, Cr, Ff, Esc, CsiStart, Csi, Osc, Linux}
 use Rattle.text_input.specs.declared.Options.{Options}
 use Rattle.text_input.specs.declared.TextInput.{TextInput}
-use Rattle.text_input.specs.Scan.{Outcome, refusalIn, writtenIn}
+use Rattle.common.specs.Answers.{refusalIn, writtenIn}
+use Rattle.text_input.specs.Scan.{Outcome}
 use Rattle.text_output.specs.declared.Mode.{Mode}
 use Rattle.text_output.specs.declared.Mode.the-variants.{Plain, Crlf, Color}
 use Rattle.text_output.specs.declared.Ground.the-variants.{Newline, ZwjOrPrepend, Other}
@@ -46,10 +48,6 @@ bytesOf (n ∷ ns) = n % 256 ∷ n / 256 % 256 ∷ n / 65536 % 256 ∷ n / 16777
 -- a page's numbers; one whose bytes are no multiple of four is a wrong page, as the empty one is. Document 01 leaves this open.
 abbrev pub pageOf : List ℕ → List ℕ
 pageOf bytes = cond (eqb (length bytes % 4) 0) (numbersOf bytes) []
-
--- the queue's bytes as a call leaves them: the places' numbers, and behind them what was there
-abbrev pub withNumbers : List ℕ → List ℕ → List ℕ
-withNumbers places queue = bytesOf places ++ drop (4 * length places) queue
 
 -- ---- a call's arguments
 -- 0 is false, and any other number true. Document 01 leaves this open.

@@ -11,7 +11,8 @@ mod plain_writer;
 mod run;
 mod writing;
 
-use isolate_unassigned::Answer;
+use common::Answer;
+use common::NO_ROOM;
 use numbers::hold_chars;
 use numbers::read_numbers;
 use numbers::write_numbers;
@@ -32,9 +33,10 @@ use writing::write;
 ghost use mathlib.Core.Path.{_≡_};
 ghost use Prim.Native.Nat.{_≤_};
 ghost use lib.ListN.{length, take};
+ghost use lib.Seq.{sets};
 ghost use Rattle.text_input.specs.Scan.{outcome, scanOf, finishOf};
 ghost use Rattle.text_output.specs.Write.{writeOf};
-ghost use Rattle.basic_text.specs.Exports.{numbersOf, pageOf, withNumbers, flag, recordOf, optionsOf, replyOf, writerOf, writeReplyOf};
+ghost use Rattle.basic_text.specs.Exports.{numbersOf, pageOf, flag, recordOf, optionsOf, replyOf, writerOf, writeReplyOf, bytesOf};
 ghost use Rattle.basic_text.specs.Inner.{longestPage, fitting};
 
 // The scanner's record. A state's number past the last is read as 0, and a flag is false at 0 alone.
@@ -126,7 +128,7 @@ fn scan(r: TextInput, page: &[u32], options: Options, chunk: &[u8], queue: &mut 
         ⌝ }
     ensures { λ s. ⌜
         now (queue .exit)
-        ≡ withNumbers (scanOf r (now (page .entry)) options (numbersOf (now (chunk .entry))) (numbersOf (now (queue .entry))) .places) (now (queue .entry))
+        ≡ sets (now (queue .entry)) 0 (bytesOf (scanOf r (now (page .entry)) options (numbersOf (now (chunk .entry))) (numbersOf (now (queue .entry))) .places))
         ⌝ }
 {
     let n = chunk.len() / 4;
@@ -169,9 +171,8 @@ pub extern "C" fn basic_text_scan(
         ⌝ }
     ensures places { λ r. ⌜
         now (queue .exit)
-        ≡ withNumbers
-        (scanOf (recordOf «record») (pageOf (now (page .entry))) (optionsOf options) (numbersOf (now (chunk .entry))) (numbersOf (now (queue .entry))) .places)
-        (now (queue .entry))
+        ≡ sets (now (queue .entry)) 0
+        (bytesOf (scanOf (recordOf «record») (pageOf (now (page .entry))) (optionsOf options) (numbersOf (now (chunk .entry))) (numbersOf (now (queue .entry))) .places))
         ⌝ }
 {
     let r = record_of(record);
@@ -191,11 +192,11 @@ pub extern "C" fn basic_text_scan(
 // The finish. Total: what it appends is stored as numbers first, since that is at most two.
 fn finish(r: TextInput, eof: bool, queue: &mut [u8]) -> Scanned
     ensures { λ s. ⌜ outcome s (finishOf r eof (numbersOf (now (queue .entry))) .places) ≡ finishOf r eof (numbersOf (now (queue .entry))) ⌝ }
-    ensures { λ s. ⌜ now (queue .exit) ≡ withNumbers (finishOf r eof (numbersOf (now (queue .entry))) .places) (now (queue .entry)) ⌝ }
+    ensures { λ s. ⌜ now (queue .exit) ≡ sets (now (queue .entry)) 0 (bytesOf (finishOf r eof (numbersOf (now (queue .entry))) .places)) ⌝ }
 {
     if queue.len() / 4 < 2 {
         return Scanned {
-            answer: Answer::Refused(8),
+            answer: Answer::Refused(NO_ROOM),
             next: r,
         };
     }
@@ -216,7 +217,7 @@ fn finish(r: TextInput, eof: bool, queue: &mut [u8]) -> Scanned
 pub extern "C" fn basic_text_finish(record: Record, eof: u32, queue: &mut [u8]) -> Reply
     ensures reply { λ r. ⌜ r ≡ replyOf (finishOf (recordOf «record») (flag eof) (numbersOf (now (queue .entry)))) ⌝ }
     ensures places { λ r. ⌜
-        now (queue .exit) ≡ withNumbers (finishOf (recordOf «record») (flag eof) (numbersOf (now (queue .entry))) .places) (now (queue .entry))
+        now (queue .exit) ≡ sets (now (queue .entry)) 0 (bytesOf (finishOf (recordOf «record») (flag eof) (numbersOf (now (queue .entry))) .places))
         ⌝ }
 {
     let r = record_of(record);
@@ -239,9 +240,8 @@ pub extern "C" fn basic_text_write(
         ⌝ }
     ensures places { λ r. ⌜
         now (queue .exit)
-        ≡ withNumbers
-        (writeOf (writerOf writer) (pageOf (now (page .entry))) (now (bytes .entry)) (numbersOf (now (queue .entry))) .outcome .places)
-        (now (queue .entry))
+        ≡ sets (now (queue .entry)) 0
+        (bytesOf (writeOf (writerOf writer) (pageOf (now (page .entry))) (now (bytes .entry)) (numbersOf (now (queue .entry))) .outcome .places))
         ⌝ }
 {
     let w = writer_of(writer);

@@ -5,7 +5,7 @@ ghost use mathlib.Core.List.{_∷_, []};
 ghost use Prim.Native.Nat.{_+_, _*_, _≤_, _<_};
 ghost use lib.ListN.{length, getD, take};
 ghost use lib.Seq.{sets};
-ghost use Rattle.unicode.specs.Chars.{areChars, filled};
+ghost use Rattle.unicode.specs.Chars.{areChars};
 ghost use Rattle.basic_text.specs.Exports.{numberOf, numbersOf, bytesOf};
 
 // Four bytes as a number. Total.
@@ -39,7 +39,7 @@ fn write_number(bytes: &mut [u8], i: usize, n: u32)
 // Reads all numbers into the first places of out. Inner: asks for room.
 pub fn read_numbers(bytes: &[u8], out: &mut [u32])
     requires { ⌜ length (numbersOf (now bytes)) ≤ length (now out) ⌝ }
-    ensures { λ r. ⌜ now (out .exit) ≡ filled (numbersOf (now (bytes .entry))) (now (out .entry)) ⌝ }
+    ensures { λ r. ⌜ now (out .exit) ≡ sets (now (out .entry)) 0 (numbersOf (now (bytes .entry))) ⌝ }
 {
     let mut i = 0;
     while i < bytes.len() / 4 {

@@ -1,7 +1,7 @@
 // A record, options and an answer as plain numbers, in both directions. Total.
 use super::Record;
 use super::Reply;
-use isolate_unassigned::Answer;
+use common::Answer;
 use text_input::Options;
 use text_input::Scanned;
 use text_input::State;

@@ -12,7 +12,6 @@ ghost use mathlib.Core.Bool.{true};
 ghost use Prim.Native.Nat.{_+_, _*_, _≤_, _<_};
 ghost use lib.ListN.{length, drop};
 ghost use lib.Seq.{sets};
-ghost use Rattle.unicode.specs.Chars.{filled};
 ghost use Rattle.page.specs.Page.{accepted};
 ghost use Rattle.text_input.specs.Scan.{outs, ends, skipped};
 ghost use Rattle.basic_text.specs.Exports.{numbersOf, bytesOf};
@@ -88,7 +87,7 @@ pub fn run(
     requires { ⌜ 4 * length (outs (now page) options first (drop from (numbersOf (now chunk)))) ≤ length (now queue) ⌝ }
     ensures written { λ ran. ⌜ ran .written ≡ length (outs (now (page .entry)) options first (drop from (numbersOf (now (chunk .entry))))) ⌝ }
     ensures next { λ ran. ⌜ ran .next ≡ ends (now (page .entry)) options first (drop from (numbersOf (now (chunk .entry)))) ⌝ }
-    ensures places { λ ran. ⌜ now (queue .exit) ≡ filled (bytesOf (outs (now (page .entry)) options first (drop from (numbersOf (now (chunk .entry)))))) (now (queue .entry)) ⌝ }
+    ensures places { λ ran. ⌜ now (queue .exit) ≡ sets (now (queue .entry)) 0 (bytesOf (outs (now (page .entry)) options first (drop from (numbersOf (now (chunk .entry)))))) ⌝ }
 {
     let mut numbers = [0u32; 256];
     let mut places = [0u32; 769];

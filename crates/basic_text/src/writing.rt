@@ -32,7 +32,7 @@ ghost use Rattle.text_output.specs.Writer.{sound, bytesOutcome};
 ghost use Rattle.text_output.specs.Step.{stepsOf};
 ghost use Rattle.text_output.specs.Write.{runIn, writeOf};
 ghost use Rattle.text_output_write.specs.Inner.{writerAt, pushed, stored, progress, turnOf, isolatorAfter};
-ghost use Rattle.basic_text.specs.Exports.{numbersOf, withNumbers};
+ghost use Rattle.basic_text.specs.Exports.{numbersOf, bytesOf};
 ghost use Rattle.basic_text.specs.Inner.{tail, atPlace, placeIn, behindOf};
 
 // Stores the first n of some numbers from place k on. Inner: asks for room.
@@ -204,7 +204,7 @@ pub fn write(w: TextOutput, page: &[u32], bytes: &[u8], queue: &mut [u8]) -> Wri
         ⌝ }
     ensures places { λ r. ⌜
         now (queue .exit)
-        ≡ withNumbers (writeOf w (now (page .entry)) (now (bytes .entry)) (numbersOf (now (queue .entry))) .outcome .places) (now (queue .entry))
+        ≡ sets (now (queue .entry)) 0 (bytesOf (writeOf w (now (page .entry)) (now (bytes .entry)) (numbersOf (now (queue .entry))) .outcome .places))
         ⌝ }
 {
     let prefix = valid_prefix(bytes);

@@ -2,7 +2,7 @@
 // promise nothing more: what they call has its contract, and the benchmark compares the sums with the Rust's.
 use check_char::Checked;
 use check_char::check_basic_text_char;
-use isolate_unassigned::Answer;
+use common::Answer;
 use isolate_unassigned::isolate;
 use page::is_accepted;
 use replace::Replaced;

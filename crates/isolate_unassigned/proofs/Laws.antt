@@ -7,24 +7,21 @@
 --     isolate-guarded     by an accepted page, each unassigned character of the result has 34F before it
 --     isolate-of-guarded  a run of which that holds is left as it is
 --     isolate-twice       so isolating a second time changes nothing
---     written-back        an answer read back from its numbers: no two answers list alike
 use Prim.Native.Nat.{ℕ, _+_, _*_, _≤_}
 use mathlib.Core.Path.{_≡_, refl, sym, ap}
-use mathlib.Core.Bool.{Bool, true, false, not, _&&_, _||_}
+use mathlib.Core.Bool.{Bool, true, false, not, _&&_, _||_, or-true}
 use mathlib.Core.List.{List, [], _∷_, _++_}
 use native.Mathlib.Omega.{arith}
 use lib.Dec.{eqb}
 use lib.ListN.{length, length-append}
 use Rattle.unicode.specs.Chars.{isChar, areChars}
-use Rattle.unicode.proofs.Kit.{never, split, both-true, both}
+use Rattle.common.proofs.Kit.{never, split, both-true, both}
 use Rattle.page.specs.Page.{accepted}
 use Rattle.page.proofs.PageLaws.{facts-of-accepted}
-use Rattle.isolate_unassigned.specs.declared.Answer.{Answer}
-use Rattle.isolate_unassigned.specs.declared.Answer.the-variants.{Written, Refused}
 use Rattle.isolate_unassigned.specs.declared.IsolateUnassigned.{IsolateUnassigned}
 use Rattle.isolate_unassigned.specs.declared.Isolated.{Isolated}
 use Rattle.isolate_unassigned.specs.declared.Isolated.the-variants.{One, Two}
-use Rattle.isolate_unassigned.specs.Isolate.{toIsolate, isolatorOf, fresh, puts, isolateStepOf, givesOut, after, lastOwed, isolatedFrom, isolateOf, placesForRun, writtenNumbers}
+use Rattle.isolate_unassigned.specs.Isolate.{toIsolate, isolatorOf, fresh, puts, isolateStepOf, givesOut, after, lastOwed, isolatedFrom, isolateOf, placesForRun}
 use Rattle.isolate_unassigned.specs.Meaning.{PutIn, none, kept, put, guarded}
 
 -- a fact of a step, by its two answers
@@ -81,10 +78,6 @@ pub joiner-assigned : (p : List ℕ) → accepted p ≡ true → toIsolate p 0x3
 unfolding toIsolate
 joiner-assigned p a = rw (facts-of-accepted p a .assigned-34f)
 
-or-true : (b : Bool) → b || true ≡ true
-or-true true = refl
-or-true false = refl
-
 -- 34F before the run does no harm
 guarded-by-more : (p cs : List ℕ) (has : Bool) → guarded p false cs ≡ true → guarded p has cs ≡ true
 guarded-by-more p [] has h = refl
@@ -138,13 +131,3 @@ isolate-of-guarded p cs h = outs-of-guarded p cs false h
 
 pub isolate-twice : (p cs : List ℕ) → accepted p ≡ true → isolateOf p (isolateOf p cs) ≡ isolateOf p cs
 isolate-twice p cs a = isolate-of-guarded p (isolateOf p cs) (isolate-guarded p cs a)
-
--- ---- the answer of these numbers
-abbrev pub answerOf : List ℕ → Answer
-answerOf [] = Refused 0
-answerOf (n ∷ []) = Refused n
-answerOf (n ∷ k ∷ ns) = Written k
-
-pub written-back : (a : Answer) → answerOf (writtenNumbers a) ≡ a
-written-back (Written k) = refl
-written-back (Refused n) = refl

@@ -7,7 +7,7 @@ use mathlib.Core.Bool.{Bool, true, false, not, _&&_, _||_}
 use mathlib.Core.List.{List, [], _∷_}
 use lib.Dec.{eqb}
 use borrow.Author.Tests.{eqb-true}
-use Rattle.unicode.proofs.Kit.{never, by}
+use Rattle.common.proofs.Kit.{never, by}
 use Rattle.page.specs.Page.{accepted}
 use Rattle.isolate_unassigned.specs.Isolate.{toIsolate, isolatorOf, isolateStepOf, isolatedFrom, isolateOf}
 use Rattle.isolate_unassigned.specs.Meaning.{there, gotBefore, getsAfter, isolatedAfter, isolated}

@@ -13,11 +13,10 @@ use mathlib.Core.List.{List, [], _++_}
 use native.Mathlib.Nat.{zero-add}
 use native.Mathlib.Omega.{arith}
 use lib.ListN.{length, drop, set, length-append}
-use lib.Seq.{sets, sets-eq, length-sets, drop-length}
+use lib.Seq.{sets, length-sets, drop-length}
 use Rattle.isolate_unassigned.specs.declared.IsolateUnassigned.{IsolateUnassigned}
 use Rattle.isolate_unassigned.specs.declared.Moved.{Moved}
-use Rattle.unicode.specs.Chars.{filled}
-use Rattle.unicode.proofs.Lists.{sets-append}
+use Rattle.common.proofs.Lists.{sets-append}
 use Rattle.ranges.specs.declared.Range.{Range}
 use Rattle.page.specs.Inner.{Assigned}
 use Rattle.stretch.specs.Stretch.{part}
@@ -32,7 +31,7 @@ module _ (p cs out₀ : List ℕ) where
     pub same : length out ≡ length out₀
     pub room : length (isolateOf p cs) ≤ length out₀
     pub count : k + length (isolatedFrom p r (drop i cs)) ≡ length (isolateOf p cs)
-    pub places : sets out k (isolatedFrom p r (drop i cs)) ≡ filled (isolateOf p cs) out₀
+    pub places : sets out k (isolatedFrom p r (drop i cs)) ≡ sets out₀ 0 (isolateOf p cs)
     pub close : Assigned p near
 
   pub begin : (near : Range) → Assigned p near → length (isolateOf p cs) ≤ length out₀ → Going out₀ fresh near 0 0
@@ -43,7 +42,7 @@ module _ (p cs out₀ : List ℕ) where
         same = refl;
         room = h;
         count = rw zero-add;
-        places = rw zero-add at (sets-eq (isolateOf p cs) out₀ 0 (rw zero-add h));
+        places = refl;
         close = a;
       }
 
@@ -81,7 +80,7 @@ module _ (p cs out₀ : List ℕ) where
       none-left = let e : i ≡ length cs = omega (arith, g .low) in rw (e, drop-length)
 
       abbrev pub Stored : List ℕ → ℕ → Type 0
-      Stored o n = (n ≡ length (isolateOf p cs)) × (o ≡ filled (isolateOf p cs) out₀)
+      Stored o n = (n ≡ length (isolateOf p cs)) × (o ≡ sets out₀ 0 (isolateOf p cs))
 
       pub ended : r .«need_cgj» ≡ false → Stored out k
       ended e = (omega (arith, simp (none-left, e) at (g .count)), simp (none-left, e) at (g .places))

@@ -14,7 +14,7 @@ use native.Mathlib.Omega.{arith}
 use lib.Dec.{eqb}
 use lib.ListN.{length, drop, getD, length-append}
 use lib.Seq.{sets, drop-cons}
-use Rattle.unicode.proofs.Kit.{never, or-cases, by-lt}
+use Rattle.common.proofs.Kit.{never, or-cases, by-lt}
 use Rattle.ranges.specs.declared.Range.{Range}
 use Rattle.page.specs.Page.{assigned}
 use Rattle.page.specs.Inner.{Assigned}

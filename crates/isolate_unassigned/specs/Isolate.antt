@@ -5,11 +5,10 @@ use mathlib.Core.List.{List, [], _∷_, _++_}
 use Prim.Native.Nat.{ℕ, zero, suc, _+_, _*_}
 use lib.Dec.{ltb, eqb}
 use lib.ListN.{length}
-use Rattle.unicode.specs.Chars.{areChars, filled}
+use lib.Seq.{sets}
+use Rattle.unicode.specs.Chars.{areChars}
 use Rattle.page.specs.Page.{assigned, accepted}
 use Rattle.text_utils.specs.Classes.{isPrivateUse}
-use Rattle.isolate_unassigned.specs.declared.Answer.{Answer}
-use Rattle.isolate_unassigned.specs.declared.Answer.the-variants.{Written, Refused}
 use Rattle.isolate_unassigned.specs.declared.IsolateUnassigned.{IsolateUnassigned}
 use Rattle.isolate_unassigned.specs.declared.Isolated.{Isolated}
 use Rattle.isolate_unassigned.specs.declared.Isolated.the-variants.{One, Two}
@@ -64,11 +63,6 @@ abbrev pub placesForRun : ℕ → ℕ
 placesForRun zero = 0
 placesForRun (suc n) = 2 * suc n + 1
 
--- an answer by document 01's numbers: 0 and how many were written, or the refusal's number
-abbrev pub writtenNumbers : Answer → List ℕ
-writtenNumbers (Written n) = 0 ∷ n ∷ []
-writtenNumbers (Refused n) = n ∷ []
-
 -- "order 2, 1, 8": the number of the refusal, and 0 for none. 2 for a wrong page, 1 for a value that is no character, 8 for too few places
 abbrev pub isolateRefusal : List ℕ → List ℕ → List ℕ → ℕ
 isolateRefusal p cs out =
@@ -81,4 +75,4 @@ isolateAnswer p cs out =
 
 -- the places as isolation leaves them: unchanged by a refusal
 abbrev pub isolatePlaces : List ℕ → List ℕ → List ℕ → List ℕ
-isolatePlaces p cs out = cond (eqb (isolateRefusal p cs out) 0) (filled (isolateOf p cs) out) out
+isolatePlaces p cs out = cond (eqb (isolateRefusal p cs out) 0) (sets out 0 (isolateOf p cs)) out

@@ -2,6 +2,10 @@
 // The iterator becomes a record by value whose step answers all that it gives out for one character, so `deferred` is gone; what
 // the iterator gives after the last character is `finish`. A run goes by stretches of assigned characters that are copied (crate
 // `stretch`), and by a step for any other character.
+use common::Answer;
+use common::NO_ROOM;
+use common::NOT_A_CHAR;
+use common::WRONG_PAGE;
 use page::assigned_range;
 use page::is_accepted;
 use page::is_assigned;
@@ -20,10 +24,10 @@ ghost use mathlib.Core.List.{List};
 ghost use Prim.Native.Nat.{ℕ, _+_, _≤_, _<_};
 ghost use lib.ListN.{length, drop};
 ghost use lib.Seq.{sets};
-ghost use Rattle.unicode.specs.Chars.{filled};
+ghost use Rattle.common.specs.Answers.{writtenNumbers};
 ghost use Rattle.page.specs.Page.{accepted, assigned};
 ghost use Rattle.page.specs.Inner.{Assigned};
-ghost use Rattle.isolate_unassigned.specs.Isolate.{toIsolate, fresh, isolateStepOf, givesOut, after, isolatedFrom, placesForRun, isolateOf, writtenNumbers, isolateAnswer, isolatePlaces};
+ghost use Rattle.isolate_unassigned.specs.Isolate.{toIsolate, fresh, isolateStepOf, givesOut, after, isolatedFrom, placesForRun, isolateOf, isolateAnswer, isolatePlaces};
 ghost use Rattle.isolate_unassigned.specs.Inner.{Nearer, Moves};
 
 // Puts 34F around unassigned characters.
@@ -97,12 +101,6 @@ impl IsolateUnassigned {
     {
         self.need_cgj
     }
-}
-
-// How many places were written, or the number of a refusal.
-pub enum Answer {
-    Written(usize),
-    Refused(u32),
 }
 
 // How many places a run asks for. Total: a slice of 32-bit numbers is too short for the sum to wrap.
@@ -241,7 +239,7 @@ pub fn isolate_run(page: &[u32], chars: &[u32], out: &mut [u32]) -> usize
     requires { ⌜ accepted (now page) ≡ true ⌝ }
     requires { ⌜ length (isolateOf (now page) (now chars)) ≤ length (now out) ⌝ }
     ensures { λ r. ⌜ r ≡ length (isolateOf (now (page .entry)) (now (chars .entry))) ⌝ }
-    ensures { λ r. ⌜ now (out .exit) ≡ filled (isolateOf (now (page .entry)) (now (chars .entry))) (now (out .entry)) ⌝ }
+    ensures { λ r. ⌜ now (out .exit) ≡ sets (now (out .entry)) 0 (isolateOf (now (page .entry)) (now (chars .entry))) ⌝ }
 {
     let base = assigned_range(page, 0xa);
     let mut near = base;
@@ -272,9 +270,9 @@ pub fn isolate(page: &[u32], chars: &[u32], out: &mut [u32]) -> Answer
             if places_for(chars) <= out.len() {
                 return Answer::Written(isolate_run(page, chars, out));
             }
-            return Answer::Refused(8);
+            return Answer::Refused(NO_ROOM);
         }
-        return Answer::Refused(1);
+        return Answer::Refused(NOT_A_CHAR);
     }
-    Answer::Refused(2)
+    Answer::Refused(WRONG_PAGE)
 }

@@ -13,7 +13,7 @@ use mathlib.Core.Path.{_≡_, refl}
 use lib.Dec.{eqb}
 use borrow.Author.Tests.{eqb-true}
 use Rattle.unicode.specs.Chars.{isChar, areChars}
-use Rattle.unicode.proofs.Kit.{never, split, both-true, both}
+use Rattle.common.proofs.Kit.{never, split, both-true, both}
 use Rattle.page.specs.Page.{accepted}
 use Rattle.text_utils.specs.Classes.{basicTextStart}
 use Rattle.text_utils.proofs.Classes.{start-newline, start-joiner, end-newline}

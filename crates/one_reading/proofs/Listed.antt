@@ -4,22 +4,26 @@
 --     queue-listed    the queue is what scans of the accepted chunks and the finish append
 --     count-listed    the count is the number of characters in the accepted chunks, whatever the calls bring
 --     chars-listed    the accepted chunks are characters
-use Prim.Native.Nat.{ℕ, _+_}
+use Prim.Native.Nat.{ℕ, _+_, _≤_, _<_}
 use mathlib.Core.Bool.{Bool, true, false, cond}
 use mathlib.Core.List.{List, [], _∷_, _++_, append-assoc, append-nil, flatten}
 use mathlib.Core.Path.{_≡_, refl, sym, _∙_}
 use native.Mathlib.Omega.{arith}
 use lib.Dec.{eqb, ltb}
 use lib.ListN.{length, drop, length-append}
-use lib.Seq.{take-append-seam}
-use borrow.Author.Tests.{eqb-true}
-use Rattle.unicode.specs.Chars.{areChars, filled}
+use lib.Seq.{sets}
+use borrow.Author.Tests.{eqb-true, ltb-false, lt-ltb}
+use Rattle.common.proofs.Kit.{by, by-lt}
+use Rattle.common.proofs.Lists.{take-first}
+use Rattle.unicode.specs.Chars.{areChars}
 use Rattle.page.specs.Page.{accepted}
 use Rattle.text_input.specs.declared.Options.{Options}
 use Rattle.text_input.specs.declared.TextInput.{TextInput}
-use Rattle.text_input.specs.Scan.{Outcome, refused, written, wroteIn, refusalOf, scanChars, scanNext, scanOf, finishChars, finishNext, finishOf, opened, skipped}
+use Rattle.common.specs.Answers.{wroteIn}
+use Rattle.text_input.specs.Scan.{Outcome, refused, written, placesForChunk, refusalOf, scanChars, scanNext, scanOf, finishChars, finishNext, finishOf, opened, skipped}
 use Rattle.text_input.specs.Streams.{scansChars, scansNext}
 use Rattle.text_input.proofs.Meaning.{ends-count}
+use Rattle.text_input.proofs.Room.{scan-room, finish-room}
 use Rattle.one_reading.proofs.Holds.{chars-append}
 use Rattle.one_reading.specs.Calls.{Call, scan, finish, callOf, Seen, queueOf, recordAfter, refusalBy, countWith, acceptedFrom, chunksOf, FinishedOnce}
 
@@ -50,8 +54,25 @@ call-is : (r : TextInput) (c : Call) → callOf r c ≡ outcomeBy (eqb (refusalB
 call-is r (scan p o chunk places) = unfold scanOf in refl
 call-is r (finish eof places) = unfold finishOf in finish-is (ltb (length places) 2) r eof places
 
-wrote-is : (out places : List ℕ) → wroteIn (0 ∷ length out ∷ []) (filled out places) ≡ out
-wrote-is out places = take-append-seam out (drop (length out) places)
+wrote-is : (out places : List ℕ) → length out ≤ length places → wroteIn (0 ∷ length out ∷ []) (sets places 0 out) ≡ out
+wrote-is out places h = take-first out places (length out) refl h
+
+-- an accepted call has room for what it appends
+zero-room : (count n room : ℕ) (page chars : Bool) → refusalOf count page chars n room ≡ 0 → placesForChunk n ≤ room
+unfolding refusalOf
+zero-room count n room true true h =
+    by (ltb room (placesForChunk n))
+    (λ e. by (ltb 4294967295 (count + n)) (λ d. let z : ⊥ = omega (arith, rw d at h) in absurd z) (λ d. let z : ⊥ = omega (arith, rw (d, e) at h) in absurd z))
+    (λ e. ltb-false room (placesForChunk n) e)
+zero-room count n room true false h = let e : ⊥ = omega (arith, h) in absurd e
+zero-room count n room false chars h = let e : ⊥ = omega (arith, h) in absurd e
+
+chars-fit : (r : TextInput) (c : Call) → refusalBy (r .count) c ≡ 0 → length (charsOf r c) ≤ length (lent c)
+chars-fit r (scan p o chunk places) e =
+    omega (arith, scan-room p o r chunk, zero-room (r .count) (length chunk) (length places) (accepted p) (areChars chunk) e)
+chars-fit r (finish eof places) e =
+    by-lt (length places) 2 (λ h. let z : ⊥ = omega (arith, rw (lt-ltb (length places) 2 h) at e) in absurd z)
+    (λ h. omega (arith, finish-room r eof))
 
 -- the count after an accepted call
 next-count : (r : TextInput) (c : Call) → nextOf r c .count ≡ countWith (r .count) c
@@ -149,18 +170,20 @@ module _ (page : List ℕ) (options : Options) where
       let e : queueOf seen ≡ wholeFrom next ts = rw k at (ih next g (rw k h)) in
       rw e (sym (append-assoc (scanChars page options r chunk) (scansChars page options next ts) (finishChars (scansNext page options next ts) true)))
 
-  queue-by : (b : Bool) (c : Call) (cs : List Call) (seen : List Outcome) (r : TextInput) → Queued cs seen →
+  queue-by : (b : Bool) (c : Call) (cs : List Call) (seen : List Outcome) (r : TextInput) → eqb (refusalBy (r .count) c) 0 ≡ b → Queued cs seen →
       Seen (outcomeBy b r c .next) cs seen → FinishedOnce page options (leftBy b (r .count) c cs) →
       wroteIn (outcomeBy b r c .numbers) (outcomeBy b r c .places) ++ queueOf seen ≡ wholeFrom r (chunksOf (leftBy b (r .count) c cs))
-  queue-by true (scan p o chunk places) cs seen r ih g h =
+  queue-by true (scan p o chunk places) cs seen r b ih g h =
       let e : p ≡ page = h .0 in
       let d : o ≡ options = h .1 in
-      rw (e, d, wrote-is (scanChars page options r chunk) places) (scan-queued chunk places cs seen r ih (rw (e, d) at g) (h .2))
-  queue-by true (finish eof places) cs seen r ih g h =
+      let f = rw (e, d) at (chars-fit r (scan p o chunk places) (eqb-true _ 0 b)) in
+      rw (e, d, wrote-is (scanChars page options r chunk) places f) (scan-queued chunk places cs seen r ih (rw (e, d) at g) (h .2))
+  queue-by true (finish eof places) cs seen r b ih g h =
       let e : eof ≡ true = h .0 in
       let n : queueOf seen ≡ [] = none-listed cs (finishNext r eof) seen g (h .1) in
-      rw (e, wrote-is (finishChars r true) places, n, h .1) (unfold scansChars scansNext in append-nil (finishChars r true))
-  queue-by false c cs seen r ih g h = ih r g h
+      let f = rw e at (chars-fit r (finish eof places) (eqb-true _ 0 b)) in
+      rw (e, wrote-is (finishChars r true) places f, n, h .1) (unfold scansChars scansNext in append-nil (finishChars r true))
+  queue-by false c cs seen r b ih g h = ih r g h
 
   pub queue-listed : (calls : List Call) (seen : List Outcome) → Queued calls seen
   unfolding queueOf acceptedFrom
@@ -169,4 +192,4 @@ module _ (page : List ℕ) (options : Options) where
   queue-listed (c ∷ cs) [] r h f = absurd h
   queue-listed (c ∷ cs) (s ∷ seen) r h f =
       let e : s ≡ outcomeBy (eqb (refusalBy (r .count) c) 0) r c = h .0 ∙ call-is r c in
-      rw e (queue-by (eqb (refusalBy (r .count) c) 0) c cs seen r (queue-listed cs seen) (rw e at (h .1)) f)
+      rw e (queue-by (eqb (refusalBy (r .count) c) 0) c cs seen r refl (queue-listed cs seen) (rw e at (h .1)) f)

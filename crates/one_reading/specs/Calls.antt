@@ -10,7 +10,8 @@ use Rattle.unicode.specs.Chars.{areChars}
 use Rattle.page.specs.Page.{accepted}
 use Rattle.text_input.specs.declared.Options.{Options}
 use Rattle.text_input.specs.declared.TextInput.{TextInput}
-use Rattle.text_input.specs.Scan.{Outcome, wroteIn, refusalOf, scanOf, finishOf}
+use Rattle.common.specs.Answers.{wroteIn}
+use Rattle.text_input.specs.Scan.{Outcome, refusalOf, scanOf, finishOf}
 use Rattle.text_input.specs.Streams.{withoutBomFirst}
 
 -- ---- the calls

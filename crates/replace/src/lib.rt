@@ -1,5 +1,6 @@
 // What a character is replaced by on input, so that text that holds it can still be read. Ports `replace` of
 // internals/src/replace.rs, arm by arm; what the Rust pushes to a queue is the answer here.
+use common::NOT_A_CHAR;
 use unicode::is_char;
 ghost use mathlib.Core.Path.{_≡_};
 ghost use Rattle.replace.specs.Replace.{replaceOf, replacementNumbers, replacementOf};
@@ -156,5 +157,5 @@ pub fn replacement(c: u32) -> Answer
     if is_char(c) {
         return Answer::Chars(replace(c));
     }
-    Answer::Refused(1)
+    Answer::Refused(NOT_A_CHAR)
 }

@@ -1,5 +1,5 @@
 // The operations on bytes and on a run of characters: `L utf8` and `L isolate`.
-use isolate_unassigned::Answer;
+use common::Answer;
 use replay_words::answer;
 use replay_words::answer::Why;
 use replay_words::blank;

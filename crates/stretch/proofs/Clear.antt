@@ -12,7 +12,7 @@ use mathlib.Core.Logic.{⊎-elim}
 use native.Mathlib.Omega.{arith}
 use lib.Dec.{ltb, eqb}
 use borrow.Author.Tests.{ltb-true, leb-true, eqb-true, eqb-false, not-true, ne-eqb}
-use Rattle.unicode.proofs.Kit.{by, both, both-true, or-cases}
+use Rattle.common.proofs.Kit.{by, both, both-true, or-cases}
 use Rattle.ranges.specs.declared.Range.{Range}
 use Rattle.ranges.specs.Inner.{inRange}
 use Rattle.ranges.proofs.Found.{in-range}

@@ -11,14 +11,14 @@ use mathlib.Core.Bool.{Bool, true, false, _||_, or-true}
 use mathlib.Core.List.{List}
 use native.Mathlib.Omega.{arith}
 use lib.ListN.{length, getD}
-use Rattle.unicode.proofs.Kit.{never}
+use Rattle.common.proofs.Kit.{never}
 use Rattle.ranges.specs.declared.Range.{Range}
 use Rattle.ranges.specs.Inner.{noRange, inRange}
 use Rattle.ranges.proofs.Found.{empty}
 use Rattle.stretch.specs.declared.Sought.{Sought}
 use Rattle.stretch.specs.Stretch.{inGap, inSought, eitherOf, Each, Stretch}
 use Rattle.stretch.specs.Plain.{asciiOr}
-use Rattle.unicode.proofs.Places.{none, joined}
+use Rattle.common.proofs.Places.{none, joined}
 
 -- all that q seeks, r seeks
 abbrev Within : Sought → Sought → Type 0

@@ -10,11 +10,12 @@ use native.Mathlib.Omega.{arith}
 use borrow.Author.Tests.{ltb-false, eq-eqb, ne-eqb, lt-ltb, le-ltb}
 use lib.Dec.{eqb, ltb, leb}
 use lib.ListN.{length, take, drop, length-drop}
-use lib.Seq.{take-all}
-use Rattle.unicode.specs.Chars.{areChars, filled}
-use Rattle.unicode.proofs.Kit.{split}
+use lib.Seq.{sets}
+use Rattle.unicode.specs.Chars.{areChars}
+use Rattle.common.proofs.Kit.{split}
+use Rattle.common.proofs.Lists.{rest-is}
 use Rattle.page.specs.Page.{accepted}
-use Rattle.isolate_unassigned.specs.declared.Answer.the-variants.{Written}
+use Rattle.common.specs.declared.Answer.the-variants.{Written}
 use Rattle.text_input.specs.declared.State.the-variants.{Ground}
 use Rattle.text_input.specs.declared.Options.{Options}
 use Rattle.text_input.specs.declared.TextInput.{TextInput}
@@ -44,9 +45,6 @@ bom-le (c ∷ cs) = one (eqb c 0xFEFF)
 skip-le : (r : TextInput) (chunk : List ℕ) → skipped r chunk ≤ length chunk
 skip-le r chunk = split (λ n. n ≤ length chunk) (r .«at_start») (λ h. bom-le chunk) (λ h. omega arith)
 
-rest : (l : List ℕ) (s : ℕ) → take (length l - s) (drop s l) ≡ drop s l
-rest l s = take-all (length l - s) (drop s l) (omega (arith, length-drop s l))
-
 module _ (r : TextInput) (p : List ℕ) (o : Options) (chunk queue : List ℕ) (n : ℕ) (e : n ≡ scanRefusal r p chunk (length queue)) where
   pub refused-is : (n ≡ 0 → ⊥) → refused r n queue ≡ scanOf r p o chunk queue
   unfolding scanOf
@@ -70,15 +68,15 @@ module _ (r : TextInput) (p : List ℕ) (o : Options) (chunk queue : List ℕ) (
       module _ (fresh : TextInput) (g : fresh ≡ opened r (length chunk)) where
         pub enough : length (outs p o fresh (take (length chunk - from) (drop from chunk))) ≤ length queue
         enough =
-            rw rest (omega (arith, part-room p o fresh from chunk, ltb-false (length queue) (placesForChunk (length chunk)) (told .2)))
+            rw rest-is (omega (arith, part-room p o fresh from chunk, ltb-false (length queue) (placesForChunk (length chunk)) (told .2)))
 
         pub accepted-is : (k : ℕ) (next : TextInput) (q : List ℕ) →
             (k ≡ length (outs p o fresh (take (length chunk - from) (drop from chunk))))
             × ((next ≡ ends p o fresh (take (length chunk - from) (drop from chunk)))
-            × (q ≡ filled (outs p o fresh (take (length chunk - from) (drop from chunk))) queue))
+            × (q ≡ sets queue 0 (outs p o fresh (take (length chunk - from) (drop from chunk)))))
             → outcome (record { answer = Written k; next = next }) q ≡ scanOf r p o chunk queue
         unfolding scanOf
-        accepted-is k next q h = rw (← e, eq-eqb n 0 z, h .0, h .1 .0, h .1 .1, rest, f, g)
+        accepted-is k next q h = rw (← e, eq-eqb n 0 z, h .0, h .1 .0, h .1 .1, rest-is, f, g)
 
 -- ---- a finish
 module _ (r : TextInput) (eof : Bool) (queue : List ℕ) where
@@ -96,7 +94,7 @@ module _ (r : TextInput) (eof : Bool) (queue : List ℕ) where
         start ≡ finishNext r eof .«at_start» →
         l₂ ≡ lastOf last (leadChars mark) → l₃ ≡ lastOf l₂ (leadChars newline) →
         (k ≡ length (leadChars lead ++ (leadChars mark ++ leadChars newline)))
-        × (q ≡ filled (leadChars lead ++ (leadChars mark ++ leadChars newline)) queue)
+        × (q ≡ sets queue 0 (leadChars lead ++ (leadChars mark ++ leadChars newline)))
         → outcome
         (record {
           answer = Written k;

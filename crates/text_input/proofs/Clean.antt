@@ -13,7 +13,7 @@ use native.Mathlib.Omega.{arith}
 use lib.Dec.{T}
 use lib.ListN.{length, drop}
 use Rattle.unicode.specs.Chars.{isChar, areChars}
-use Rattle.unicode.proofs.Kit.{split, both-true}
+use Rattle.common.proofs.Kit.{split, both-true}
 use Rattle.unicode.proofs.Rows.{char-lt}
 use Rattle.replace.specs.declared.Replaced.{Replaced}
 use Rattle.replace.specs.Replace.{chars, replaceOf}

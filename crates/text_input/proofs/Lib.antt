@@ -1,6 +1,6 @@
 -- The proofs of this crate. First the readings and what the scanner makes of them: every text has one reading (`Unique`), the scanner
 -- over one piece (`Run`), over a text (`Meaning`), over chunks (`Chunks`) and over streams (`Streams`); the room a call needs (`Room`),
--- what the queue holds (`Clean`), the shared sets at their bounds (`Pins`), the cases by hand (`Cases`). Then what the functions'
+-- what the queue holds (`Clean`), the shared sets at their bounds (`Pins`). Then what the functions'
 -- contracts rest on.
 pub mod Recognise
 pub mod Cut
@@ -12,7 +12,6 @@ pub mod Streams
 pub mod Room
 pub mod Clean
 pub mod Pins
-pub mod Cases
 pub mod Kit
 pub mod Stretch
 pub mod Loop

@@ -12,7 +12,6 @@ use native.Mathlib.Nat.{zero-add}
 use native.Mathlib.Omega.{arith}
 use lib.ListN.{length, drop, length-append}
 use lib.Seq.{sets, length-sets, drop-length}
-use Rattle.unicode.specs.Chars.{filled}
 use Rattle.ranges.specs.declared.Range.{Range}
 use Rattle.stretch.specs.Stretch.{part}
 use Rattle.stretch.specs.Plain.{Gap}
@@ -22,7 +21,7 @@ use Rattle.text_input.specs.declared.TextInput.{TextInput}
 use Rattle.text_input.specs.declared.Moved.{Moved}
 use Rattle.text_input.specs.Scan.{outs, ends}
 use Rattle.text_input.specs.Inner.{Moves}
-use Rattle.unicode.proofs.Lists.{sets-append, sets-filled}
+use Rattle.common.proofs.Lists.{sets-append}
 use Rattle.text_input.proofs.Chunks.{outs-append, ends-append}
 
 module _ (p : List ℕ) (o : Options) (chunk queue₀ : List ℕ) (r₀ : TextInput) where
@@ -31,7 +30,7 @@ module _ (p : List ℕ) (o : Options) (chunk queue₀ : List ℕ) (r₀ : TextIn
     pub same : length queue ≡ length queue₀
     pub count : k + length (outs p o r (drop i chunk)) ≡ length (outs p o r₀ chunk)
     pub next : ends p o r (drop i chunk) ≡ ends p o r₀ chunk
-    pub stored : sets queue k (outs p o r (drop i chunk)) ≡ filled (outs p o r₀ chunk) queue₀
+    pub stored : sets queue k (outs p o r (drop i chunk)) ≡ sets queue₀ 0 (outs p o r₀ chunk)
     pub plain : Gap gap
 
   pub begin : (gap : Range) → Gap gap → length (outs p o r₀ chunk) ≤ length queue₀ → Going queue₀ r₀ gap 0 0
@@ -41,12 +40,12 @@ module _ (p : List ℕ) (o : Options) (chunk queue₀ : List ℕ) (r₀ : TextIn
         same = refl;
         count = rw zero-add;
         next = refl;
-        stored = sets-filled (outs p o r₀ chunk) queue₀ room;
+        stored = refl;
         plain = ps;
       }
 
   module _ (queue : List ℕ) (r : TextInput) (gap : Range) (k i : ℕ) (g : Going queue r gap k i) where
-    pub ended : length chunk ≤ i → (k ≡ length (outs p o r₀ chunk)) × ((r ≡ ends p o r₀ chunk) × (queue ≡ filled (outs p o r₀ chunk) queue₀))
+    pub ended : length chunk ≤ i → (k ≡ length (outs p o r₀ chunk)) × ((r ≡ ends p o r₀ chunk) × (queue ≡ sets queue₀ 0 (outs p o r₀ chunk)))
     ended past =
         let e : i ≡ length chunk = omega (arith, g .low) in
         let n : drop i chunk ≡ [] = rw (e, drop-length) in (

@@ -6,7 +6,7 @@
 --     section-chars                       what a text and a finish append is this
 --     section-next                        the record after them
 use Prim.Native.Nat.{ℕ}
-use mathlib.Core.Bool.{Bool, true, false, cond, not, _&&_, _||_}
+use mathlib.Core.Bool.{Bool, true, false, cond, not, _&&_, _||_, Bool·not-not}
 use mathlib.Core.List.{List, [], _∷_, _++_, append-assoc, append-cancel-left}
 use mathlib.Core.Path.{_≡_, refl, ap, ap₂, sym, _∙_}
 use lib.Dec.{eqb}
@@ -42,10 +42,6 @@ use Rattle.text_input.proofs.Unique.{Class, opens, single, class, kindC
 use Rattle.text_input.proofs.Run.{Closed, pre, expectAfter, guard, at, complete, told, onward, guard-line, run-cut}
 
 -- ---- small laws
-not-not : (b : Bool) → not (not b) ≡ b
-not-not true = refl
-not-not false = refl
-
 guard-false : (p v : List ℕ) → guard p false v ≡ v
 unfolding guard
 guard-false p [] = refl
@@ -162,7 +158,7 @@ module _ (p : List ℕ) (o : Options) (eof start : Bool) (count : ℕ) where
       from (join xs) (Ground b) e n
       ≡ record { out = guard p e (image xs) ++ closing (owedAfter (not b) xs) (lastOf n (image xs)); line = not (owedAfter (not b) xs) }
   unfolding join image owedAfter told-piece told
-  pieces-by good [] l b e n = unfold complete guard in rw (closing-is b e n, not-not b)
+  pieces-by good [] l b e n = unfold complete guard in rw (closing-is b e n, Bool·not-not b)
   pieces-by good (x ∷ xs) l b e n =
       let w = pieceImage (x .kind) (x .text) (join xs) in
       over-piece good x (x .text) (join xs) refl (l .0) b e n

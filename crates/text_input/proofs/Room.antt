@@ -14,7 +14,7 @@ use mathlib.Core.List.{List, [], _∷_, _++_}
 use native.Mathlib.Omega.{arith}
 use lib.Dec.{eqb}
 use lib.ListN.{length, drop, length-append, length-drop}
-use Rattle.unicode.proofs.Kit.{split}
+use Rattle.common.proofs.Kit.{split}
 use Rattle.replace.specs.declared.Replaced.{Replaced}
 use Rattle.replace.specs.Replace.{replaceOf}
 use Rattle.text_utils.specs.Classes.{basicTextStart, basicTextEnd}

@@ -16,7 +16,7 @@ use lib.Seq.{sets, drop-cons}
 use borrow.Author.Tests.{eqb-true, ne-eqb, not-true}
 use Rattle.replace.specs.declared.Replaced.the-variants.{One}
 use Rattle.replace.specs.Table.{inSpans}
-use Rattle.unicode.proofs.Kit.{both-true, by-lt}
+use Rattle.common.proofs.Kit.{both-true, by-lt}
 use Rattle.ranges.specs.declared.Range.{Range}
 use Rattle.stretch.specs.Stretch.{inSought, Stretch, part}
 use Rattle.stretch.specs.Plain.{special, Gap, asciiOr}

@@ -1,11 +1,10 @@
 -- What a reader must believe of this crate. First the program's calls: one character and a chunk as text_input.rs has them, a scan
--- and a finish with their refusals. Then the pieces of a text, its reading and its image, and streams of chunks and finishes; the
--- cases checked by hand. Document 01 has the finish behind the pieces. `Inner` serves the private functions alone: no entry's contract
+-- and a finish with their refusals. Then the pieces of a text, its reading and its image, and streams of chunks and finishes.
+-- Document 01 has the finish behind the pieces. `Inner` serves the private functions alone: no entry's contract
 -- cites it.
 pub mod Sets
 pub mod Step
 pub mod Scan
 pub mod Pieces
 pub mod Streams
-pub mod Cases
 pub mod Inner

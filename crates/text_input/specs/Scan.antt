@@ -4,11 +4,12 @@ use Prim.Native.Nat.{ℕ, zero, suc, _+_, _*_}
 use mathlib.Core.Bool.{Bool, true, false, cond, not, _&&_, _||_}
 use mathlib.Core.List.{List, [], _∷_, _++_}
 use lib.Dec.{eqb, ltb}
-use lib.ListN.{length, take, drop, getD}
-use Rattle.unicode.specs.Chars.{areChars, filled}
+use lib.ListN.{length, drop}
+use lib.Seq.{sets}
+use Rattle.common.specs.Answers.{writtenNumbers}
+use Rattle.unicode.specs.Chars.{areChars}
 use Rattle.page.specs.Page.{accepted}
 use Rattle.text_utils.specs.Classes.{basicTextEnd}
-use Rattle.isolate_unassigned.specs.Isolate.{writtenNumbers}
 use Rattle.text_input.specs.declared.State.{State}
 use Rattle.text_input.specs.declared.State.the-variants.{Ground, Cr, Ff, Esc, CsiStart, Csi, Osc, Linux}
 use Rattle.text_input.specs.declared.Options.{Options}
@@ -34,8 +35,6 @@ ends p o r [] = r
 ends p o r (c ∷ cs) = ends p o (scanStepOf p o r c .next) cs
 
 -- ---- a call's answer by document 01's numbers, the record after it, and the lent places as it returns
--- The answer of a scan or a finish is the enum of `isolate_unassigned`, which `writtenNumbers` lists: 0 and how many characters were
--- written, or the refusal's number.
 pub record Outcome : Type 0 where
   pub numbers : List ℕ
   pub next : TextInput
@@ -51,19 +50,7 @@ refused r n queue = record { numbers = n ∷ []; next = r; places = queue }
 
 -- accepted: `out` is written from the first place on, and its length is answered
 abbrev pub written : TextInput → List ℕ → List ℕ → Outcome
-written next out queue = record { numbers = 0 ∷ length out ∷ []; next = next; places = filled out queue }
-
--- by an answer's numbers: the number of the refusal, and 0 for none
-abbrev pub refusalIn : List ℕ → ℕ
-refusalIn ns = getD ns 0 0
-
--- how many characters were written, and 0 where the call was refused
-abbrev pub writtenIn : List ℕ → ℕ
-writtenIn ns = getD ns 1 0
-
--- what was written: so many of the first places
-abbrev pub wroteIn : List ℕ → List ℕ → List ℕ
-wroteIn ns places = take (writtenIn ns) places
+written next out queue = record { numbers = 0 ∷ length out ∷ []; next = next; places = sets queue 0 out }
 
 -- ---- a scan
 -- "A chunk of n characters needs 3 × n + 1 free places, an empty one none."

@@ -7,7 +7,11 @@
 mod queue;
 mod step;
 
-use isolate_unassigned::Answer;
+use common::Answer;
+use common::COUNT_LIMIT;
+use common::NO_ROOM;
+use common::NOT_A_CHAR;
+use common::WRONG_PAGE;
 use page::is_accepted;
 use queue::put;
 use queue::put_three;
@@ -30,7 +34,6 @@ ghost use Prim.Native.Nat.{_+_, _≤_, _<_};
 ghost use lib.Dec.{leb};
 ghost use lib.ListN.{length, drop};
 ghost use lib.Seq.{sets};
-ghost use Rattle.unicode.specs.Chars.{filled};
 ghost use Rattle.page.specs.Page.{accepted};
 ghost use Rattle.stretch.specs.Plain.{Gap};
 ghost use Rattle.text_input.specs.Step.{scanStepOf, outChars};
@@ -196,7 +199,7 @@ impl TextInput {
         requires { ⌜ length (outs (now page) options self (now chunk)) ≤ length (now queue) ⌝ }
         ensures written { λ r. ⌜ r .written ≡ length (outs (now (page .entry)) options self (now (chunk .entry))) ⌝ }
         ensures next { λ r. ⌜ r .next ≡ ends (now (page .entry)) options self (now (chunk .entry)) ⌝ }
-        ensures places { λ r. ⌜ now (queue .exit) ≡ filled (outs (now (page .entry)) options self (now (chunk .entry))) (now (queue .entry)) ⌝ }
+        ensures places { λ r. ⌜ now (queue .exit) ≡ sets (now (queue .entry)) 0 (outs (now (page .entry)) options self (now (chunk .entry))) ⌝ }
     {
         let mut r = self;
         let mut gap = first_gap();
@@ -281,7 +284,7 @@ impl TextInput {
     {
         if queue.len() < 2 {
             return Scanned {
-                answer: Answer::Refused(8),
+                answer: Answer::Refused(NO_ROOM),
                 next: self,
             };
         }
@@ -324,15 +327,15 @@ pub fn refusal(count: u32, page: bool, chars: bool, n: usize, room: usize) -> u3
     ensures { λ r. ⌜ r ≡ refusalOf count page chars n room ⌝ }
 {
     if !page {
-        2
+        WRONG_PAGE
     } else if !chars {
-        1
+        NOT_A_CHAR
     } else if 4294967295 - (count as usize) < n {
-        10
+        COUNT_LIMIT
     } else if has_room(n, room) {
         0
     } else {
-        8
+        NO_ROOM
     }
 }
 

@@ -9,7 +9,6 @@ ghost use mathlib.Core.List.{_++_};
 ghost use Prim.Native.Nat.{_+_, _≤_};
 ghost use lib.ListN.{length};
 ghost use lib.Seq.{sets};
-ghost use Rattle.unicode.specs.Chars.{filled};
 ghost use Rattle.replace.specs.Replace.{chars};
 ghost use Rattle.text_input.specs.Step.{leadChars, imageChars, outChars};
 
@@ -77,7 +76,7 @@ pub fn put(queue: &mut [u32], at: usize, step: Step) -> usize
 pub fn put_three(queue: &mut [u32], a: Lead, b: Lead, c: Lead) -> usize
     requires { ⌜ length (leadChars a ++ (leadChars b ++ leadChars c)) ≤ length (now queue) ⌝ }
     ensures { λ r. ⌜ r ≡ length (leadChars a ++ (leadChars b ++ leadChars c)) ⌝ }
-    ensures { λ r. ⌜ now (queue .exit) ≡ filled (leadChars a ++ (leadChars b ++ leadChars c)) (now (queue .entry)) ⌝ }
+    ensures { λ r. ⌜ now (queue .exit) ≡ sets (now (queue .entry)) 0 (leadChars a ++ (leadChars b ++ leadChars c)) ⌝ }
 {
     let second = put_lead(queue, 0, a);
     let third = put_lead(queue, second, b);

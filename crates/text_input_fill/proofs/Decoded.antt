@@ -12,7 +12,7 @@ use lib.ListN.{length, take}
 use lib.Seq.{take-append-seam}
 use Rattle.unicode.specs.Chars.{isChar, areChars}
 use Rattle.unicode.specs.Utf8.{encodeOf, encodeAll, charsOf}
-use Rattle.unicode.proofs.Kit.{split, both-true, both}
+use Rattle.common.proofs.Kit.{split, both-true, both}
 use Rattle.unicode.proofs.Texts.{decode-encode}
 use Rattle.text_input_fill.specs.Fill.{takenChars, FillOutcome, fillRefused, filledBytes, fillOf}
 

@@ -12,14 +12,14 @@ use native.Mathlib.Nat.{zero-add, sub-zero}
 use native.Mathlib.Numerals.{add-one}
 use borrow.Author.Tests.{lt-ltb, le-ltb}
 use lib.ListN.{length, getD, take, drop, set, length-append, length-set, drop-of-length-le, take-append-drop}
-use lib.Seq.{sets, sets-eq, length-sets, drop-cons, take-suc-set, drop-set-lt, take-length, drop-length, drop-append-seam, take-append-seam}
+use lib.Seq.{sets, length-sets, drop-cons, take-suc-set, drop-set-lt, take-length, drop-length, drop-append-seam, take-append-seam}
 use Rattle.unicode.specs.Chars.{isChar, areChars}
-use Rattle.unicode.specs.Utf8.{encodeOf, continuation, encodeAll, withBytes}
-use Rattle.unicode.proofs.Kit.{by-lt, both-true}
+use Rattle.unicode.specs.Utf8.{encodeOf, continuation, encodeAll}
+use Rattle.common.proofs.Kit.{by-lt, both-true}
 use Rattle.unicode.proofs.Rows.{length-encode}
 use Rattle.text_input_fill.specs.declared.Filled.the-variants.{Counts}
 use Rattle.text_input_fill.specs.Fill.{takenChars, zeroed, fillOutcome, filledBytes, fillOf}
-use Rattle.unicode.proofs.Lists.{sets-append, sets-filled}
+use Rattle.common.proofs.Lists.{sets-append, sets-first}
 
 pub fits : (free : ℕ) (cs : List ℕ) → length (encodeAll (takenChars free cs)) ≤ free
 fits free [] = omega arith
@@ -103,10 +103,9 @@ module _ (queue buf₀ : List ℕ) where
           let r : length buf₀ - k - length (encodeOf c) ≡ length buf₀ - (k + length (encodeOf c)) = omega arith in
           rw (add-one, drop-cons queue i 0 more, le-ltb (length buf₀ - k) 4 (rw (g .same) at room), r)
 
-      pub encode-again : Encoding (withBytes (encodeOf c) buf k) (i + 1) (k + length (encodeOf c))
+      pub encode-again : Encoding (sets buf k (encodeOf c)) (i + 1) (k + length (encodeOf c))
       encode-again =
-          rw (← (sets-eq (encodeOf c) buf k (encode-asks .1)))
-          (record {
+          record {
             low = omega arith;
             inside = omega (arith, length-encode c .1, g .same);
             same = length-sets buf k (encodeOf c) ∙ g .same;
@@ -114,7 +113,7 @@ module _ (queue buf₀ : List ℕ) where
             count = omega (arith, simp turn at (g .count));
             place = omega (arith, simp (turn, length-append) at (g .place));
             stored = sym (sets-append (encodeOf c) (encodeAll (takenChars (length buf₀ - (k + length (encodeOf c))) (drop (i + 1) queue))) buf k) ∙ rw turn at (g .stored);
-          })
+          }
 
   -- ---- both
   pub filled-is : (t k : ℕ) (b₁ b₂ : List ℕ) → 136 ≤ length buf₀ → areChars queue ≡ true → Encoded t k b₁
@@ -122,5 +121,5 @@ module _ (queue buf₀ : List ℕ) where
   unfolding fillOf
   filled-is t k b₁ b₂ room s e q =
       let f : b₁ ≡ filledBytes queue buf₀ ++ drop (length (filledBytes queue buf₀)) buf₀ =
-      e .1 .1 ∙ sets-filled (filledBytes queue buf₀) buf₀ (fits (length buf₀) queue) in
+      e .1 .1 ∙ sets-first (filledBytes queue buf₀) buf₀ (fits (length buf₀) queue) in
       simp (q, f, e .0, e .1 .0, take-append-seam, drop-append-seam, le-ltb (length buf₀) 136 room, s)

@@ -1,5 +1,7 @@
 // Filling bytes from the queue of the scanner: the part of `read_with_status` in text_input.rs that encodes the queue, and
 // `clear_to_char_boundary`. It needs no record.
+use common::NOT_A_CHAR;
+use common::SMALL_BUFFER;
 use unicode::MAX_UTF8_SIZE;
 use unicode::NORMALIZATION_BUFFER_SIZE;
 use unicode::are_chars;
@@ -74,7 +76,7 @@ pub fn fill(queue: &[u32], buf: &mut [u8]) -> Filled
     ensures { λ r. ⌜ fillOutcome r (now (buf .exit)) ≡ fillOf (now (queue .entry)) (now (buf .entry)) ⌝ }
 {
     if buf.len() < NORMALIZATION_BUFFER_SIZE {
-        return Filled::Refused(7);
+        return Filled::Refused(SMALL_BUFFER);
     }
     if are_chars(queue) {
         let encoded = encode_queue(queue, buf);
@@ -82,6 +84,6 @@ pub fn fill(queue: &[u32], buf: &mut [u8]) -> Filled
         clear_to_char_boundary(buf, bytes);
         Filled::Counts(encoded.taken, bytes)
     } else {
-        Filled::Refused(1)
+        Filled::Refused(NOT_A_CHAR)
     }
 }

@@ -10,10 +10,11 @@ use mathlib.Core.Path.{_≡_, refl, _∙_}
 use native.Mathlib.Omega.{arith}
 use lib.Dec.{eqb, ltb}
 use lib.ListN.{length, take, set, getD}
-use lib.Seq.{sets, take-set-le}
+use lib.Seq.{sets}
 use borrow.Author.Tests.{eqb-false}
 use Rattle.unicode.specs.Utf8.{charsOf}
-use Rattle.unicode.proofs.Kit.{by, split}
+use Rattle.common.proofs.Kit.{by, split}
+use Rattle.common.proofs.Lists.{take-sets}
 use Rattle.page.specs.Page.{accepted}
 use Rattle.text_utils.specs.Classes.{basicTextStart}
 use Rattle.text_output.specs.declared.Mode.{Mode}
@@ -35,12 +36,6 @@ mode-keeps p k = mode-holds (λ (w : TextOutput). w .kept ≡ k) (λ w g h. h) (
 refusal-first : {n : List ℕ} → StepRefusal n → 0 < getD n 0 0
 refusal-first four = omega arith
 refusal-first six = omega arith
-
--- ---- the places
--- stores from n on leave the first n places
-take-sets : (n : ℕ) (vs l : List ℕ) (i : ℕ) → n ≤ i → take n (sets l i vs) ≡ take n l
-take-sets n [] l i h = refl
-take-sets n (v ∷ vs) l i h = take-sets n vs (set l i v) (suc i) (omega arith) ∙ take-set-le n l i v h
 
 -- ---- a write
 module _ (w : TextOutput) (places : List ℕ) where

@@ -11,7 +11,7 @@ use native.Mathlib.Omega.{arith}
 use lib.Dec.{eqb}
 use lib.ListN.{length, length-append}
 use Rattle.unicode.specs.Chars.{areChars}
-use Rattle.unicode.proofs.Kit.{never, by, both-true, both}
+use Rattle.common.proofs.Kit.{never, by, both-true, both}
 use Rattle.page.specs.Page.{accepted}
 use Rattle.text_utils.specs.Classes.{basicTextStart, starter}
 use Rattle.text_utils.proofs.Classes.{start-low}

@@ -25,8 +25,8 @@ use lib.ListN.{length, drop}
 use lib.Seq.{take-append-seam}
 use borrow.Author.Tests.{eqb-true, le-ltb}
 use Rattle.unicode.specs.Chars.{areChars}
-use Rattle.unicode.proofs.Kit.{split}
-use Rattle.unicode.proofs.Lists.{sets-filled}
+use Rattle.common.proofs.Kit.{split}
+use Rattle.common.proofs.Lists.{sets-first}
 use Rattle.page.specs.Page.{accepted}
 use Rattle.page.proofs.PageLaws.{facts-of-accepted}
 use Rattle.text_utils.specs.Classes.{basicTextStart}
@@ -136,7 +136,7 @@ pub passes-by : (m : Mode) (p q xs : List ℕ) → accepted p ≡ true → areCh
 passes-by m p q xs a c s fits go places room wrote w closed d =
     let rest = drop (length xs) places in
     let runs = write-runs (fresh m) p q places refl a c room in
-    let stored = sets-filled xs places (omega arith) in
+    let stored = sets-first xs places (omega arith) in
     let handed = hands-out p (fresh m) xs rest s in
     rw (d, w)
     (record {

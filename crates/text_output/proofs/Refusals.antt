@@ -10,10 +10,11 @@ use mathlib.Core.Path.{_≡_, refl, _∙_}
 use native.Mathlib.Omega.{arith}
 use lib.Dec.{eqb, ltb}
 use lib.ListN.{length, drop, set, getD}
-use lib.Seq.{sets, drop-set-lt}
+use lib.Seq.{sets}
 use Rattle.unicode.specs.Chars.{areChars}
 use Rattle.unicode.specs.Utf8.{charsOf}
-use Rattle.unicode.proofs.Kit.{never, by, split, both-true}
+use Rattle.common.proofs.Kit.{never, by, split, both-true}
+use Rattle.common.proofs.Lists.{drop-sets}
 use Rattle.page.specs.Page.{accepted}
 use Rattle.text_utils.specs.Classes.{basicTextStart}
 use Rattle.text_output.specs.declared.Ground.the-variants.{Newline, ZwjOrPrepend, Other}
@@ -147,11 +148,6 @@ refusal-quiet w p chars room =
     (λ a.
     split LeavesAll (not (areChars chars)) (λ c. (refl, refl))
     (λ c. split LeavesAll (ltb room (placesForWrite w (length chars))) (λ r. (refl, refl)) (λ r. (refl, refl)))))
-
--- stores before n leave the places from n on
-drop-sets : (n : ℕ) (l : List ℕ) (i : ℕ) (vs : List ℕ) → i + length vs ≤ n → drop n (sets l i vs) ≡ drop n l
-drop-sets n l i [] h = refl
-drop-sets n l i (v ∷ vs) h = drop-sets n (set l i v) (suc i) vs (omega arith) ∙ drop-set-lt n l i v (omega arith)
 
 module _ (w : TextOutput) (places : List ℕ) where
   -- a refused step

@@ -14,7 +14,7 @@ use lib.ListN.{length, getD}
 use lib.Seq.{sets}
 use borrow.Author.Tests.{eqb-true, leb-true, le-leb}
 use Rattle.unicode.specs.Utf8.{charsOf}
-use Rattle.unicode.proofs.Kit.{split, both-true, both}
+use Rattle.common.proofs.Kit.{split, both-true, both}
 use Rattle.page.specs.Page.{accepted}
 use Rattle.text_utils.specs.Classes.{basicTextStart}
 use Rattle.text_output.specs.declared.Ground.the-variants.{Newline, ZwjOrPrepend, Other}

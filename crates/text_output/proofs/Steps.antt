@@ -9,7 +9,7 @@ use mathlib.Core.List.{List, [], _∷_}
 use mathlib.Core.Path.{_≡_, refl}
 use lib.Dec.{eqb, ltb}
 use borrow.Author.Tests.{ltb-true}
-use Rattle.unicode.proofs.Kit.{split}
+use Rattle.common.proofs.Kit.{split}
 use Rattle.text_output.specs.declared.Ground.{Ground}
 use Rattle.text_output.specs.declared.State.{State}
 use Rattle.text_output.specs.declared.State.the-variants.{Ground as Grounded, Esc, Csi}

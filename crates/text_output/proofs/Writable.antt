@@ -13,7 +13,7 @@ use mathlib.Core.List.{List, [], _∷_, map}
 use native.Mathlib.Omega.{arith}
 use lib.Dec.{eqb}
 use borrow.Author.Tests.{eqb-true, not-true, ne-eqb}
-use Rattle.unicode.proofs.Kit.{never, by, both-true, both}
+use Rattle.common.proofs.Kit.{never, by, both-true, both}
 use Rattle.text_utils.specs.Classes.{basicTextEnd}
 use Rattle.replace.specs.Table.{inSpans}
 use Rattle.check_char.specs.Check.{excepted, reasonOf, clean, all}

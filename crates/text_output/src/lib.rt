@@ -3,6 +3,10 @@
 // The stream that the Rust writer holds is the caller's: a success says how many characters are handed out, and a refusal whether
 // the caller is to abandon the stream. The two writes are the crate `text_output_write`.
 use check_char::BasicTextError;
+use common::AFTER_NO_NEWLINE;
+use common::AFTER_NON_END;
+use common::IN_ESCAPE;
+use common::UNSOUND_WRITER;
 use unicode::BOM;
 ghost use mathlib.Core.Path.{_≡_};
 ghost use mathlib.Core.List.{[], _∷_};
@@ -175,11 +179,11 @@ impl TextOutput {
         match state {
             State::Ground(ground) => self.flush_ground(ground),
             State::Esc => Answered {
-                answer: Answer::Refused(13),
+                answer: Answer::Refused(IN_ESCAPE),
                 next: self,
             },
             State::Csi => Answered {
-                answer: Answer::Refused(13),
+                answer: Answer::Refused(IN_ESCAPE),
                 next: self,
             },
         }
@@ -194,7 +198,7 @@ impl TextOutput {
                 next: self.expecting(),
             },
             Ground::ZwjOrPrepend => Answered {
-                answer: Answer::Abandon(11),
+                answer: Answer::Abandon(AFTER_NON_END),
                 next: self.abandon(),
             },
             Ground::Other => Answered {
@@ -214,7 +218,7 @@ impl TextOutput {
             self.flush_in(state)
         } else {
             Answered {
-                answer: Answer::Refused(9),
+                answer: Answer::Refused(UNSOUND_WRITER),
                 next: self,
             }
         }
@@ -226,8 +230,8 @@ impl TextOutput {
     {
         match state {
             State::Ground(ground) => self.close_ground(ground),
-            State::Esc => self.closed_by(13),
-            State::Csi => self.closed_by(13),
+            State::Esc => self.closed_by(IN_ESCAPE),
+            State::Csi => self.closed_by(IN_ESCAPE),
         }
     }
 
@@ -239,8 +243,8 @@ impl TextOutput {
                 answer: Answer::Done,
                 next: self.expecting(),
             },
-            Ground::ZwjOrPrepend => self.closed_by(11),
-            Ground::Other => self.closed_by(12),
+            Ground::ZwjOrPrepend => self.closed_by(AFTER_NON_END),
+            Ground::Other => self.closed_by(AFTER_NO_NEWLINE),
         }
     }
 
@@ -264,7 +268,7 @@ impl TextOutput {
             self.close_in(state)
         } else {
             Answered {
-                answer: Answer::Refused(9),
+                answer: Answer::Refused(UNSOUND_WRITER),
                 next: self,
             }
         }

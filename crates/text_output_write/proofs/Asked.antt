@@ -12,7 +12,7 @@ use native.Mathlib.Omega.{arith}
 use lib.Dec.{eqb, leb, ltb}
 use lib.ListN.{take}
 use borrow.Author.Tests.{eqb-true, ltb-true}
-use Rattle.unicode.proofs.Kit.{never, by, both-true}
+use Rattle.common.proofs.Kit.{never, by, both-true}
 use Rattle.text_utils.specs.Classes.{basicTextEnd}
 use Rattle.check_char.specs.declared.BasicTextError.the-variants.{Escape, UnrecognizedEscape}
 use Rattle.check_char.specs.Check.{errorNumbers}

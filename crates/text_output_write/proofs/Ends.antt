@@ -1,11 +1,10 @@
 -- The end of a write, and the room that it has.
---     not-twice       of a test
 --     ended-stored    how a write ends, by where its steps led
 --     write-fits      a write that 8 lets through has room for its steps
 --     write-keeps     steps leave the kept count
 use Prim.Native.Nat.{ℕ, _+_, _*_, _≤_}
 use mathlib.Core.Path.{_≡_, refl}
-use mathlib.Core.Bool.{Bool, true, false, not}
+use mathlib.Core.Bool.{Bool, true, false, not, Bool·not-not}
 use mathlib.Core.List.{List}
 use native.Mathlib.Omega.{arith}
 use lib.ListN.{length}
@@ -20,9 +19,6 @@ use Rattle.text_output_write.specs.Inner.{pushed, writerAfter, stored, i
 use Rattle.text_output_write.proofs.Rest.{run-rest}
 use Rattle.text_output_write.proofs.Stays.{Stays, stays-more, rest-stays}
 
-pub not-twice : (b : Bool) → not (not b) ≡ b
-not-twice true = refl
-not-twice false = refl
 
 -- what stays in a write, and how much it adds
 run-stays : (mode : Mode) (p cs : List ℕ) (w : TextOutput) → sound w ≡ true → Stays (3 * length cs) w (runIn mode p w cs)

@@ -16,7 +16,7 @@ use lib.ListN.{length, getD}
 use borrow.Author.Tests.{ne-eqb, ltb-false}
 use Rattle.unicode.specs.Chars.{areChars}
 use Rattle.unicode.specs.Utf8.{encodeAll, charsOf}
-use Rattle.unicode.proofs.Kit.{by}
+use Rattle.common.proofs.Kit.{by}
 use Rattle.unicode.proofs.Texts.{longest}
 use Rattle.page.specs.Page.{accepted}
 use Rattle.text_output.specs.declared.TextOutput.{TextOutput}

@@ -10,8 +10,8 @@ use mathlib.Core.List.{List, _++_}
 use native.Mathlib.Omega.{arith}
 use lib.ListN.{length, length-append}
 use lib.Seq.{sets, length-sets}
-use Rattle.unicode.proofs.Kit.{never}
-use Rattle.unicode.proofs.Lists.{sets-append}
+use Rattle.common.proofs.Kit.{never}
+use Rattle.common.proofs.Lists.{sets-append}
 use Rattle.text_output.specs.declared.TextOutput.{TextOutput}
 use Rattle.text_output_write.specs.declared.store.Place.{Place}
 use Rattle.text_output_write.specs.declared.store.Stop.{Stop}

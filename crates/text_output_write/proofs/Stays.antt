@@ -13,7 +13,7 @@ use native.Mathlib.Omega.{arith}
 use lib.Dec.{eqb, leb, ltb}
 use lib.ListN.{length, take, length-append, length-take, length-set}
 use borrow.Author.Tests.{eqb-true, ltb-true, leb-true, le-leb}
-use Rattle.unicode.proofs.Kit.{by, both-true, both}
+use Rattle.common.proofs.Kit.{by, both-true, both}
 use Rattle.check_char.specs.Check.{checkNumbers}
 use Rattle.isolate_unassigned.specs.declared.IsolateUnassigned.{IsolateUnassigned}
 use Rattle.isolate_unassigned.specs.Isolate.{fresh, givesOut, after, lastOwed}

@@ -11,7 +11,7 @@ use native.Mathlib.Omega.{arith}
 use lib.Dec.{eqb}
 use lib.ListN.{length, take, set, length-append, length-take}
 use lib.Seq.{sets}
-use Rattle.unicode.proofs.Lists.{sets-append}
+use Rattle.common.proofs.Lists.{sets-append}
 use Rattle.text_output.specs.declared.Ground.{Ground}
 use Rattle.text_output_write.specs.declared.step.Step.{Step}
 use Rattle.text_output_write.specs.declared.step.Step.the-variants.{Out, Whole}

@@ -11,7 +11,7 @@ use mathlib.Core.List.{List, [], _∷_, _++_}
 use native.Mathlib.Nat.{add-zero}
 use lib.Dec.{eqb}
 use borrow.Author.Tests.{eqb-true}
-use Rattle.unicode.proofs.Kit.{by}
+use Rattle.common.proofs.Kit.{by}
 use Rattle.check_char.specs.declared.BasicTextError.{BasicTextError}
 use Rattle.check_char.specs.declared.Checked.{Checked}
 use Rattle.check_char.specs.declared.Checked.the-variants.{Ok, Err}

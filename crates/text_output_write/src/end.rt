@@ -3,6 +3,8 @@
 use super::store::Place;
 use super::store::Pushed;
 use super::store::Stop;
+use common::ESCAPE_FULL;
+use common::NO_START;
 use text_output::Ground;
 use text_output::State;
 use text_output::TextOutput;
@@ -67,7 +69,7 @@ fn hand_out(page: &[u32], w: Place, escape: [u32; 64], first: u32) -> Written
     let state = w.state;
     if w.expect_starter & !start_or_none(page, w.at, first) {
         Written {
-            answer: Wrote::Abandon(5),
+            answer: Wrote::Abandon(NO_START),
             next: TextOutput {
                 mode,
                 expect_starter: false,
@@ -100,7 +102,7 @@ fn refused(stop: Stop) -> Wrote
 {
     match stop {
         Stop::Reason(e) => Wrote::Unwritable(e),
-        Stop::Limit => Wrote::Abandon(6),
+        Stop::Limit => Wrote::Abandon(ESCAPE_FULL),
     }
 }
 

@@ -10,6 +10,11 @@ mod run;
 mod step;
 mod store;
 
+use common::NO_ROOM;
+use common::NOT_A_CHAR;
+use common::NOT_UTF8;
+use common::UNSOUND_WRITER;
+use common::WRONG_PAGE;
 pub use end::end_write;
 use end::first_of;
 pub use end::place_of;
@@ -57,12 +62,12 @@ fn refused_before(w: TextOutput, page: &[u32]) -> u32
     ensures { λ r. ⌜ r ≡ refusedBefore w (now (page .entry)) ⌝ }
 {
     if !w.is_sound() {
-        return 9;
+        return UNSOUND_WRITER;
     }
     if is_accepted(page) {
         return 0;
     }
-    2
+    WRONG_PAGE
 }
 
 // Writes characters: they are stored behind the kept ones, and all are handed out. Total: refuses 9, then 2, then 1, then 8, and
@@ -81,13 +86,13 @@ pub fn write_str(w: TextOutput, page: &[u32], chars: &[u32], out: &mut [u32]) ->
     }
     if !are_chars(chars) {
         return Written {
-            answer: Wrote::Refused(1),
+            answer: Wrote::Refused(NOT_A_CHAR),
             next: w,
         };
     }
     if is_short(w, chars.len(), out.len()) {
         return Written {
-            answer: Wrote::Refused(8),
+            answer: Wrote::Refused(NO_ROOM),
             next: w,
         };
     }
@@ -107,10 +112,10 @@ pub fn bytes_refusal(w: TextOutput, page: &[u32], some: bool, n: usize, room: us
         return before;
     }
     if some & (n == 0) {
-        return 3;
+        return NOT_UTF8;
     }
     if is_short(w, n, room) {
-        return 8;
+        return NO_ROOM;
     }
     0
 }
@@ -120,10 +125,10 @@ pub fn refused_bytes(w: TextOutput, n: u32) -> WrittenBytes
     ensures used { λ r. ⌜ r .used ≡ 0 ⌝ }
     ensures given { λ r. ⌜ bytesOutcome r [] .outcome .given ≡ refusedBytes n w ⌝ }
 {
-    if n == 3 {
+    if n == NOT_UTF8 {
         WrittenBytes {
             used: 0,
-            answer: Wrote::Abandon(3),
+            answer: Wrote::Abandon(NOT_UTF8),
             next: w.abandon(),
         }
     } else {

@@ -13,7 +13,7 @@ use Prim.Native.Nat.{ℕ, _≤_, _<_}
 use native.Mathlib.Omega.{arith}
 use lib.Dec.{leb, eqb}
 use borrow.Author.Tests.{eq-eqb, ne-eqb, le-leb, lt-leb}
-use Rattle.unicode.proofs.Kit.{by-lt, both-true}
+use Rattle.common.proofs.Kit.{by-lt, both-true}
 use Rattle.ranges.specs.Ranges.{member, firstsOf, lastsOf}
 use Rattle.ranges.proofs.Laws.{member-below, clears, member-clear}
 use Rattle.page.specs.Page.{accepted}

@@ -3,6 +3,8 @@
 // searched by halves.
 mod tables;
 
+use common::NOT_A_CHAR;
+use common::WRONG_PAGE;
 use page::is_accepted;
 use page::is_nonstarter;
 use ranges::in_ranges;
@@ -184,9 +186,9 @@ pub fn start_class(page: &[u32], c: u32) -> Class
         if is_char(c) {
             return Class::Is(is_basic_text_start(page, c));
         }
-        return Class::Refused(1);
+        return Class::Refused(NOT_A_CHAR);
     }
-    Class::Refused(2)
+    Class::Refused(WRONG_PAGE)
 }
 
 // Whether the character c may end a text. Total: refuses 1.
@@ -196,5 +198,5 @@ pub fn end_class(c: u32) -> Class
     if is_char(c) {
         return Class::Is(is_basic_text_end(c));
     }
-    Class::Refused(1)
+    Class::Refused(NOT_A_CHAR)
 }

@@ -15,7 +15,7 @@ use Rattle.unicode.specs.Utf8.{utf8StepOf}
 use Rattle.unicode.specs.Inner.{Ascii, AsciiTo}
 use Rattle.unicode.proofs.Steps.{lead-step}
 use Rattle.unicode.proofs.Texts.{Decoding, decoding-again}
-use Rattle.unicode.proofs.Places.{none, joined}
+use Rattle.common.proofs.Places.{none, joined}
 
 module _ (bs : List ℕ) (f : ℕ) where
   pub to-here : (stop : ℕ) → f ≤ stop → AsciiTo bs f stop f

@@ -10,7 +10,7 @@ use native.Mathlib.Omega.{arith}
 use Rattle.unicode.specs.Chars.{isChar}
 use Rattle.unicode.specs.Utf8.{encodeOf, Encoding}
 use Rattle.unicode.specs.Abnf.{Utf8Tail, Utf8Char, utf8-1, utf8-2, utf8-3-e0, utf8-3-e1, utf8-3-ed, utf8-3-ee, utf8-4-f0, utf8-4-f1, utf8-4-f4}
-use Rattle.unicode.proofs.Kit.{by-lt}
+use Rattle.common.proofs.Kit.{by-lt}
 use Rattle.unicode.proofs.Rows.{char-lt, char-gap, char-low, char-high, row1, row2, row3, row4, by-row}
 
 same2 : {a b c d : ℕ} → a ≡ b → c ≡ d → a ∷ c ∷ [] ≡ b ∷ d ∷ []

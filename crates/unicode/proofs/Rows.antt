@@ -17,10 +17,10 @@ use borrow.Author.Tests.{lt-ltb, le-ltb, le-leb, lt-leb}
 use lib.ListN.{length}
 use lib.Seq.{sets, sets-eq}
 use Rattle.unicode.specs.Chars.{isChar}
-use Rattle.unicode.specs.Utf8.{encodeOf, encodedNumbers, encodeAnswer, withBytes, encodeBytes}
+use Rattle.unicode.specs.Utf8.{encodeOf, encodedNumbers, encodeAnswer, encodeBytes}
 use Rattle.unicode.specs.declared.utf8.Encoded.{Encoded}
 use Rattle.unicode.specs.declared.utf8.Encoded.the-variants.{Next, Refused}
-use Rattle.unicode.proofs.Kit.{never, by-lt}
+use Rattle.common.proofs.Kit.{never, by-lt}
 
 pub char-lt : (c : ℕ) → isChar c ≡ true → c < 0x110000
 unfolding isChar
@@ -85,13 +85,13 @@ module _ (c : ℕ) where
   pub long4 : 0x10000 ≤ c → 4 ≤ length (encodeOf c)
   long4 k = by-row (Long 4) c (λ h. omega arith) (λ g h. omega arith) (λ g h. omega arith) (λ g. omega arith)
 
-  pub written : (buf out : List ℕ) (at n : ℕ) {l : List ℕ} → encodeOf c ≡ l → length l ≡ n → at + length (encodeOf c) ≤ length buf → out ≡ sets buf at l
-      → (at + n ≡ at + length (encodeOf c)) × (out ≡ withBytes (encodeOf c) buf at)
-  written buf out at n {l} e k fits s = (rw (e, k), rw e (s ∙ sets-eq l buf at (rw e at fits)))
+  pub written : (buf out : List ℕ) (at n : ℕ) {l : List ℕ} → encodeOf c ≡ l → length l ≡ n → out ≡ sets buf at l
+      → (at + n ≡ at + length (encodeOf c)) × (out ≡ sets buf at (encodeOf c))
+  written buf out at n {l} e k s = (rw (e, k), rw e s)
 
 module _ (c : ℕ) (buf : List ℕ) (at : ℕ) where
   pub encode-done : isChar c ≡ true → at + length (encodeOf c) ≤ length buf
-      → (encodedNumbers (Next (at + length (encodeOf c))) ≡ encodeAnswer c buf at) × (withBytes (encodeOf c) buf at ≡ encodeBytes c buf at)
+      → (encodedNumbers (Next (at + length (encodeOf c))) ≡ encodeAnswer c buf at) × (sets buf at (encodeOf c) ≡ encodeBytes c buf at)
   encode-done p h = let e = le-ltb _ _ h in (simp (p, e), simp (p, e))
 
   pub encode-full : isChar c ≡ true → length buf < at + length (encodeOf c)

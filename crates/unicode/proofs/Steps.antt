@@ -23,7 +23,7 @@ use Rattle.unicode.specs.declared.utf8.Bits.the-variants.{Read, Broken}
 use Rattle.unicode.specs.Chars.{isChar}
 use Rattle.unicode.specs.Utf8.{encodeOf, continuation, begins, Stands, stepBelow, utf8StepOf}
 use Rattle.unicode.specs.Inner.{moreOf, onBits, keptOf, twoOf, threeOf, fourOf}
-use Rattle.unicode.proofs.Kit.{never, by, by-lt, split, both-true, both}
+use Rattle.common.proofs.Kit.{never, by, by-lt, split, both-true, both}
 use Rattle.unicode.proofs.Rows.{char-lt, char-low, row1, row2, row3, row4, by-row, length-encode}
 
 -- ---- bytes with which a list begins

@@ -9,7 +9,7 @@
 --     decoding-begin ..        at the start, after a character, and where the places, the characters or the bytes end
 use Prim.Native.Nat.{ℕ, zero, suc, _+_, _-_, _≤_, _<_}
 use mathlib.Core.Path.{_≡_, refl, sym, ap, _∙_}
-use mathlib.Core.Bool.{Bool, true, false, _&&_}
+use mathlib.Core.Bool.{Bool, true, false, _&&_, and-assoc}
 use mathlib.Core.List.{List, [], _∷_, _++_, append-assoc, append-nil}
 use native.Mathlib.Omega.{arith}
 use native.Mathlib.Nat.{zero-add, sub-zero}
@@ -23,20 +23,15 @@ use Rattle.unicode.specs.declared.utf8.Utf8Step.{Utf8Step}
 use Rattle.unicode.specs.declared.utf8.Utf8Step.the-variants.{Char, Stop}
 use Rattle.unicode.specs.Chars.{isChar, areChars}
 use Rattle.unicode.specs.Utf8.{encodeOf, encodeAll, begins, Stands, utf8StepOf, onChar, charsFrom, charsOf, LongestPrefix, countsOf, decodeOf, decodePlaces}
-use Rattle.unicode.proofs.Kit.{never, both-true, both}
-use Rattle.unicode.proofs.Lists.{sets-filled}
+use Rattle.common.proofs.Kit.{never, both-true, both}
 use Rattle.unicode.proofs.Rows.{length-encode}
 use Rattle.unicode.proofs.Steps.{begins-long, stands-inside, step-exactly}
 
 -- ---- bytes with which a list begins
-and-assoc : (a b c : Bool) → a && (b && c) ≡ (a && b) && c
-and-assoc true b c = refl
-and-assoc false b c = refl
-
 begins-append : (ws vs bs : List ℕ) → begins (ws ++ vs) bs ≡ begins ws bs && begins vs (drop (length ws) bs)
 begins-append [] vs bs = refl
 begins-append (w ∷ ws) vs [] = refl
-begins-append (w ∷ ws) vs (b ∷ bs) = rw (begins-append ws vs bs) (and-assoc (eqb w b) (begins ws bs) _)
+begins-append (w ∷ ws) vs (b ∷ bs) = rw (begins-append ws vs bs) (sym (and-assoc (eqb w b) (begins ws bs) _))
 
 begins-self : (bs : List ℕ) → begins bs bs ≡ true
 begins-self [] = refl
@@ -190,7 +185,7 @@ module _ (bs out₀ : List ℕ) where
         same = refl;
         count = rw (left-begin, zero-add);
         place = rw (left-begin, zero-add);
-        places = rw left-begin (sets-filled (decodeOf bs out₀) out₀ (length-decode bs out₀));
+        places = rw left-begin;
       }
 
   pub decoding-again : (out : List ℕ) (k at c next : ℕ) → Decoding out k at → k < length out → utf8StepOf bs at ≡ Char c next

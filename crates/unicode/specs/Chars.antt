@@ -1,9 +1,8 @@
--- Characters, and lent places for them. Document 01, "Refused because of the input".
+-- Characters. Document 01, "Refused because of the input".
 use mathlib.Core.Bool.{Bool, true, not, _&&_, _||_}
-use mathlib.Core.List.{List, [], _∷_, _++_}
+use mathlib.Core.List.{List, [], _∷_}
 use Prim.Native.Nat.{ℕ}
 use lib.Dec.{leb, ltb}
-use lib.ListN.{length, drop}
 
 -- a number is a character unless refusal 1 has it: "1 a value in D800..DFFF or above 10FFFF"
 unfoldable pub isChar : ℕ → Bool
@@ -13,7 +12,3 @@ isChar c = not ((leb 0xD800 c && leb c 0xDFFF) || ltb 0x10FFFF c)
 abbrev pub areChars : List ℕ → Bool
 areChars [] = true
 areChars (c ∷ cs) = isChar c && areChars cs
-
--- lent places with ds in the first, and the others as they were
-abbrev pub filled : List ℕ → List ℕ → List ℕ
-filled ds out = ds ++ drop (length ds) out

@@ -11,7 +11,8 @@ use Rattle.unicode.specs.declared.utf8.Encoded.the-variants.{Next, Refus
 use Rattle.unicode.specs.declared.utf8.Prefix.{Prefix}
 use Rattle.unicode.specs.declared.utf8.Utf8Step.{Utf8Step}
 use Rattle.unicode.specs.declared.utf8.Utf8Step.the-variants.{Char, Stop}
-use Rattle.unicode.specs.Chars.{isChar, areChars, filled}
+use lib.Seq.{sets}
+use Rattle.unicode.specs.Chars.{isChar, areChars}
 
 -- the bytes that encode a character: section 3, the table
 --     0000..007F     0xxxxxxx
@@ -90,7 +91,7 @@ decodeOf bs out = take (length out) (charsOf bs)
 
 -- the places as decoding leaves them: the characters from the first on, and the others as they were
 abbrev pub decodePlaces : List ℕ → List ℕ → List ℕ
-decodePlaces bs out = filled (decodeOf bs out) out
+decodePlaces bs out = sets out 0 (decodeOf bs out)
 
 -- ---- writing
 -- an answer by document 01's numbers: 0 and the place after what was written, or the refusal's number
@@ -107,10 +108,6 @@ abbrev pub encodeAnswer : ℕ → List ℕ → ℕ → List ℕ
 encodeAnswer c buf at =
     cond (eqb (encodeRefusal c buf at) 0) (0 ∷ (at + length (encodeOf c)) ∷ []) (encodeRefusal c buf at ∷ [])
 
--- the bytes with ws at `at`, and the others as they were
-abbrev pub withBytes : List ℕ → List ℕ → ℕ → List ℕ
-withBytes ws buf at = take at buf ++ ws ++ drop (at + length ws) buf
-
 -- the bytes as encoding leaves them: unchanged by a refusal
 abbrev pub encodeBytes : ℕ → List ℕ → ℕ → List ℕ
-encodeBytes c buf at = cond (eqb (encodeRefusal c buf at) 0) (withBytes (encodeOf c) buf at) buf
+encodeBytes c buf at = cond (eqb (encodeRefusal c buf at) 0) (sets buf at (encodeOf c)) buf

@@ -1,12 +1,15 @@
 // UTF-8 (RFC 3629): one step of decoding, the longest valid prefix, and encoding. Stands for `str::from_utf8` with
 // `valid_up_to`, and `char::encode_utf8`, on which the Rust leans.
 use super::is_char;
+use common::NO_ROOM;
+use common::NOT_A_CHAR;
 ghost use mathlib.Core.Path.{_≡_};
 ghost use mathlib.Core.Bool.{true};
 ghost use Prim.Native.Nat.{_+_, _≤_, _<_};
 ghost use lib.ListN.{length};
+ghost use lib.Seq.{sets};
 ghost use Rattle.unicode.specs.Chars.{isChar};
-ghost use Rattle.unicode.specs.Utf8.{encodeOf, utf8StepOf, charsOf, countsOf, decodeOf, decodePlaces, encodedNumbers, encodeAnswer, encodeBytes, withBytes};
+ghost use Rattle.unicode.specs.Utf8.{encodeOf, utf8StepOf, charsOf, countsOf, decodeOf, decodePlaces, encodedNumbers, encodeAnswer, encodeBytes};
 ghost use Rattle.unicode.specs.Inner.{moreOf, keptOf, twoOf, threeOf, fourOf, Ascii, AsciiTo, AsciiIn};
 
 // What stands at a place: a character with the place after it, or none.
@@ -257,7 +260,7 @@ fn len_utf8(c: u32) -> usize
 // Writes a character's bytes at `at`, and answers the place after them. Inner: it asks for a character and for room.
 pub fn write_utf8(c: u32, buf: &mut [u8], at: usize) -> usize
     requires { ⌜ (isChar c ≡ true) × (at + length (encodeOf c) ≤ length (now buf)) ⌝ }
-    ensures { λ r. ⌜ (r ≡ at + length (encodeOf c)) × (now (buf .exit) ≡ withBytes (encodeOf c) (now (buf .entry)) at) ⌝ }
+    ensures { λ r. ⌜ (r ≡ at + length (encodeOf c)) × (now (buf .exit) ≡ sets (now (buf .entry)) at (encodeOf c)) ⌝ }
 {
     if c < 0x80 {
         buf[at] = c as u8;
@@ -293,7 +296,7 @@ pub fn encode_utf8(c: u32, buf: &mut [u8], at: usize) -> Encoded
                 return Encoded::Next(write_utf8(c, buf, at));
             }
         }
-        return Encoded::Refused(8);
+        return Encoded::Refused(NO_ROOM);
     }
-    Encoded::Refused(1)
+    Encoded::Refused(NOT_A_CHAR)
 }

@@ -2,7 +2,7 @@
 use mathlib.Core.Path.{_≡_, ap, _∙_}
 use borrow.Author.Needs.{needs}
 use Rattle.text_input.specs.Scan.{Outcome, finishOf}
-use Rattle.basic_text.specs.Exports.{numbersOf, withNumbers, flag, recordOf, replyOf}
+use Rattle.basic_text.specs.Exports.{numbersOf, flag, recordOf, replyOf, bytesOf}
 use Rattle.basic_text.proofs.basic_text_finish.Statement.{statement}
 use Rattle.basic_text.proofs.basic_text_finish.Tie as tie
 
@@ -16,7 +16,7 @@ returns c =
     ≡ finishOf (recordOf (a .«record»)) (flag (a .eof)) (numbersOf (a .queue .now)) =
     rw (r .record-of .ensures, e .flag-of .ensures) in (
       c .reply-of .ensures ∙ ap replyOf (f .finish .ensures .0 ∙ w),
-      f .finish .ensures .1 ∙ ap (λ (x : Outcome). withNumbers (x .places) (a .queue .now)) w,
+      f .finish .ensures .1 ∙ ap (λ (x : Outcome). sets (a .queue .now) 0 (bytesOf (x .places))) w,
     )
 
 pub basic-text-finish-spec : {M : Type 1} → statement M

@@ -3,7 +3,7 @@ use mathlib.Core.Path.{sym, _∙_}
 use native.Mathlib.Omega.{arith}
 use borrow.Author.Needs.{needs}
 use Rattle.basic_text.proofs.Laws.{length-numbers}
-use Rattle.basic_text.proofs.Stores.{take-filled}
+use Rattle.common.proofs.Lists.{take-first}
 use Rattle.basic_text.proofs.Pages.{right-page, odd-page}
 use Rattle.basic_text.proofs.read_fitting.Statement.{statement}
 use Rattle.basic_text.proofs.read_fitting.Tie as tie
@@ -16,7 +16,7 @@ returns c =
     let n = length-numbers page in (
       omega (arith, n),
       rw (c .before .before .read-numbers .ensures)
-          (take-filled _ _ _ n ∙ sym (right-page page (omega (arith, d .if1 .taken)) (omega (arith, n, s .pre .0)))),
+          (take-first _ _ _ n (omega (arith, n, s .pre .0)) ∙ sym (right-page page (omega (arith, d .if1 .taken)) (omega (arith, n, s .pre .0)))),
     )
 
 returns-2 : tie.Need-returns-2

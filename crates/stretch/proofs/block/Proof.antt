@@ -6,10 +6,10 @@ use mathlib.Core.List.{List}
 use lib.ListN.{getD}
 use native.Mathlib.Omega.{arith}
 use borrow.Author.Needs.{needs}
-use Rattle.unicode.proofs.Kit.{both-true}
+use Rattle.common.proofs.Kit.{both-true}
 use Rattle.stretch.specs.declared.Sought.{Sought}
 use Rattle.stretch.specs.Stretch.{inSought, Each}
-use Rattle.unicode.proofs.Places.{none, more}
+use Rattle.common.proofs.Places.{none, more}
 use Rattle.stretch.proofs.block.Statement.{statement}
 use Rattle.stretch.proofs.block.Tie as tie
 

@@ -9,7 +9,7 @@ use borrow.Author.Needs.{needs}
 use borrow.Author.Tests.{not-false}
 use Rattle.stretch.specs.declared.Sought.{Sought}
 use Rattle.stretch.specs.Stretch.{inSought, Each, Stretch}
-use Rattle.unicode.proofs.Places.{none, more}
+use Rattle.common.proofs.Places.{none, more}
 use Rattle.stretch.proofs.few.Statement.{statement}
 use Rattle.stretch.proofs.few.Tie as tie
 

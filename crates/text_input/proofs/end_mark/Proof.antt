@@ -1,6 +1,6 @@
 -- `end_mark` meets its contract: its test is that of `endMarkOf`.
 use borrow.Author.Needs.{needs}
-use Rattle.unicode.proofs.Kit.{tests}
+use Rattle.common.proofs.Kit.{tests}
 use Rattle.text_input.proofs.end_mark.Statement.{statement}
 use Rattle.text_input.proofs.end_mark.Tie as tie
 

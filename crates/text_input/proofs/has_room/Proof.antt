@@ -6,7 +6,7 @@ use native.Mathlib.Omega.{arith}
 use lib.Dec.{leb}
 use borrow.Author.Tests.{le-leb, lt-leb}
 use borrow.Author.Needs.{needs}
-use Rattle.unicode.proofs.Kit.{by-lt}
+use Rattle.common.proofs.Kit.{by-lt}
 use Rattle.text_input.specs.Scan.{placesForChunk}
 use Rattle.text_input.proofs.has_room.Statement.{statement}
 use Rattle.text_input.proofs.has_room.Tie as tie

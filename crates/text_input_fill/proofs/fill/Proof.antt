@@ -5,7 +5,7 @@ use native.Mathlib.Omega.{arith}
 use lib.ListN.{length}
 use borrow.Author.Needs.{needs}
 use borrow.Author.Tests.{lt-ltb}
-use Rattle.unicode.proofs.Kit.{tests}
+use Rattle.common.proofs.Kit.{tests}
 use Rattle.text_input_fill.specs.Fill.{fillOf}
 use Rattle.text_input_fill.proofs.Filling.{fits, filled-is}
 use Rattle.text_input_fill.proofs.fill.Statement.{statement}

@@ -24,4 +24,4 @@ close-by-loan-spec 𝓤 H 𝓜 𝓖 𝓡 =
     (λ κs a r e. loan.clauses 𝓤 H (𝓖 .A) (𝓜 .mem) (𝓡 .run) κs a .ensures tt r e)
     (λ κs a r w left. factI 𝓤 _ (emp 𝓤) left)
     (tablesOf 𝓤 H 𝓜 (tables 𝓤 H 𝓜 𝓡 code.env))
-    (cited 𝓤 H (Lent closeOf 𝓤 H (𝓖 .A)) 𝓜 𝓡 code.env #lent lent-def.routine code.calls-lent-output·close (lent-thm.met 𝓤 H 𝓜 𝓖 𝓡)))
+    (cited 𝓤 H (Lent closeOf 𝓤 H (𝓖 .A)) 𝓜 𝓡 code.env #lent lent-def.routine code.calls-text-output-lent·close (lent-thm.met 𝓤 H 𝓜 𝓖 𝓡)))

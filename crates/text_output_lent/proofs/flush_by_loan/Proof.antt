@@ -24,4 +24,4 @@ flush-by-loan-spec 𝓤 H 𝓜 𝓖 𝓡 =
     (λ κs a r e. loan.clauses 𝓤 H (𝓖 .A) (𝓜 .mem) (𝓡 .run) κs a .ensures tt r e)
     (λ κs a r w left. factI 𝓤 _ (emp 𝓤) left)
     (tablesOf 𝓤 H 𝓜 (tables 𝓤 H 𝓜 𝓡 code.env))
-    (cited 𝓤 H (Lent flushOf 𝓤 H (𝓖 .A)) 𝓜 𝓡 code.env #lent lent-def.routine code.calls-lent-output·flush (lent-thm.met 𝓤 H 𝓜 𝓖 𝓡)))
+    (cited 𝓤 H (Lent flushOf 𝓤 H (𝓖 .A)) 𝓜 𝓡 code.env #lent lent-def.routine code.calls-text-output-lent·flush (lent-thm.met 𝓤 H 𝓜 𝓖 𝓡)))

@@ -3,7 +3,7 @@ use Prim.Native.Nat.{_-_, _/_}
 use mathlib.Core.Path.{sym, _∙_}
 use native.Mathlib.Omega.{arith}
 use borrow.Author.Tests.{lt-ltb, le-ltb}
-use Rattle.unicode.proofs.Kit.{by-lt}
+use Rattle.common.proofs.Kit.{by-lt}
 use Rattle.text_output.specs.Write.{placesForWrite}
 use Rattle.text_output_write.proofs.is_short.Statement.{statement}
 use Rattle.text_output_write.proofs.is_short.Tie as tie

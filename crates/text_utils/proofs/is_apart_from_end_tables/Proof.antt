@@ -6,7 +6,7 @@ use mathlib.Core.Logic.{⊎-elim}
 use lib.Dec.{leb, eqb}
 use borrow.Author.Tests.{leb-true}
 use borrow.Author.Needs.{needs}
-use Rattle.unicode.proofs.Kit.{both-true, or-cases}
+use Rattle.common.proofs.Kit.{both-true, or-cases}
 use Rattle.text_utils.specs.Classes.{basicTextEnd}
 use Rattle.text_utils.proofs.Classes.{endsClear, end-clear}
 use Rattle.text_utils.proofs.is_apart_from_end_tables.Statement.{statement}

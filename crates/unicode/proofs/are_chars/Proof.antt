@@ -2,7 +2,7 @@
 -- are.
 use Prim.Native.Nat.{ℕ, _+_, _-_, _≤_, _<_}
 use mathlib.Core.Path.{_≡_, refl, sym, _∙_}
-use mathlib.Core.Bool.{Bool, true, false, _&&_}
+use mathlib.Core.Bool.{Bool, _&&_, and-assoc, and-true}
 use mathlib.Core.List.{List}
 use native.Mathlib.Numerals.{add-one}
 use borrow.Author.Needs.{needs}
@@ -17,14 +17,6 @@ Inv-loop chars good₀ i₀ good i = (i ≤ length chars) × (good && areChars (
 
 abbrev μ-loop : tie.MeasureT-loop
 μ-loop chars good₀ i₀ good i = length chars - i
-
-and-assoc : (a b c : Bool) → (a && b) && c ≡ a && (b && c)
-and-assoc true b c = refl
-and-assoc false b c = refl
-
-and-true : (a : Bool) → a && true ≡ a
-and-true true = refl
-and-true false = refl
 
 turn : (cs : List ℕ) (i : ℕ) (good b : Bool) → i < length cs → b ≡ isChar (getD cs i 0) → (good && b) && areChars (drop (i + 1) cs) ≡ good && areChars (drop i cs)
 turn cs i good b h e = rw (and-assoc, e, add-one, drop-cons cs i 0)

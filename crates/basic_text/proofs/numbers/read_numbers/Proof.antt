@@ -8,17 +8,15 @@ use native.Mathlib.Numerals.{add-one}
 use borrow.Author.Needs.{needs}
 use lib.ListN.{length, drop, set, getD, length-set, drop-of-length-le}
 use lib.Seq.{sets, drop-cons}
-use Rattle.unicode.specs.Chars.{filled}
 use Rattle.basic_text.specs.Exports.{numbersOf}
 use Rattle.basic_text.proofs.Laws.{length-numbers}
-use Rattle.unicode.proofs.Lists.{sets-filled}
 use Rattle.basic_text.proofs.numbers.read_numbers.Statement.{statement}
 use Rattle.basic_text.proofs.numbers.read_numbers.Tie as tie
 
 record Going (ns out₀ out : List ℕ) (i : ℕ) : Type 0 where
   low : i ≤ length ns
   same : length out ≡ length out₀
-  places : sets out i (drop i ns) ≡ filled ns out₀
+  places : sets out i (drop i ns) ≡ sets out₀ 0 ns
 
 turn : (ns out₀ out : List ℕ) (i n : ℕ) → Going ns out₀ out i →
     i < length ns → n ≡ getD ns i 0 → Going ns out₀ (set out i n) (i + 1)
@@ -42,7 +40,7 @@ more c = omega (arith, length-numbers (c .before .before .before .before .args .
 loop-holds : tie.Need-loop-holds Inv-loop μ-loop
 loop-holds c =
     let s = c .before .before in
-    record { low = omega arith; same = refl; places = sets-filled (numbersOf (s .args .bytes .now)) (s .args .out .now) (s .pre) }
+    record { low = omega arith; same = refl; places = refl }
 
 slice-write-out : tie.Need-slice-write-out Inv-loop μ-loop
 slice-write-out c = omega (arith, more (c .before), c .before .before .loop .inv .same)

@@ -1,5 +1,5 @@
 -- `basic_text::plain_writer::mode_of` meets its contract: its tests are those of `modeOf`, in their order.
-use Rattle.unicode.proofs.Kit.{tests}
+use Rattle.common.proofs.Kit.{tests}
 use Rattle.basic_text.proofs.plain_writer.mode_of.Statement.{statement}
 use Rattle.basic_text.proofs.plain_writer.mode_of.Tie as tie
 

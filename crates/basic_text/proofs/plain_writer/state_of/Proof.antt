@@ -1,5 +1,5 @@
 -- `basic_text::plain_writer::state_of` meets its contract: its tests are those of `writerStateOf`, in their order.
-use Rattle.unicode.proofs.Kit.{tests}
+use Rattle.common.proofs.Kit.{tests}
 use Rattle.basic_text.proofs.plain_writer.state_of.Statement.{statement}
 use Rattle.basic_text.proofs.plain_writer.state_of.Tie as tie
 

@@ -8,7 +8,6 @@ use native.Mathlib.Omega.{arith}
 use borrow.Author.Needs.{needs}
 use lib.ListN.{length, take, drop}
 use lib.Seq.{sets}
-use Rattle.unicode.specs.Chars.{filled}
 use Rattle.text_input.specs.Scan.{outs, ends}
 use Rattle.text_input.proofs.Room.{room}
 use Rattle.basic_text.specs.Exports.{numbersOf, bytesOf}
@@ -55,7 +54,7 @@ ran : (c : tie.After-run) →
     let s = Entry (Read c) in
     (c .run .result .written ≡ length (out s))
     × ((c .run .result .next ≡ ends (s .args .page .now) (s .args .options) (s .args .r) (chars s))
-    × (c .run .last .1 .1 .1 .1 .0 ≡ filled (out s) (s .args .places .now)))
+    × (c .run .last .1 .1 .1 .1 .0 ≡ sets (s .args .places .now) 0 (out s)))
 ran c = rw (read (Read c) .1) at (c .run .ensures)
 
 -- the first places hold what it appends

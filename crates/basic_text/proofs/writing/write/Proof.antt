@@ -4,13 +4,14 @@ use mathlib.Core.Path.{_≡_, sym, _∙_, ap}
 use native.Mathlib.Omega.{arith}
 use denote.Ref.{now}
 use lib.ListN.{length}
+use lib.Seq.{sets}
 use Rattle.unicode.specs.declared.utf8.Prefix.{Prefix}
 use Rattle.unicode.specs.Utf8.{charsOf}
 use Rattle.unicode.proofs.Texts.{longest}
 use Rattle.text_output.specs.Writer.{BytesOutcome}
 use Rattle.text_output.specs.Write.{taking}
 use Rattle.text_output_write.proofs.Entries.{bytes-refused, let-through, bytes-run, write-ends, end-anywhere, place-sound, place-fits, same-end, taken, refused-anywhere}
-use Rattle.basic_text.specs.Exports.{numbersOf, withNumbers}
+use Rattle.basic_text.specs.Exports.{numbersOf, bytesOf}
 use Rattle.basic_text.proofs.Laws.{Bytes, length-numbers, with-all}
 use Rattle.basic_text.proofs.Moved.{with-tail}
 use borrow.Author.Needs.{needs}
@@ -35,7 +36,7 @@ returns c =
     refused-anywhere (c .refused-bytes .result) w (c .before .before .bytes-refusal .result) out (r .0) (r .1)
     ∙ bytes-refused w p bytes out _ no (omega (arith, c .before .if1 .taken)) in
     let small : Bytes queue = λ i. omega (arith, c .before .before .before .before .slice-known .given i) in
-    (is, sym (with-all queue small) ∙ ap (λ (o : BytesOutcome). withNumbers (o .outcome .places) queue) is)
+    (is, sym (with-all queue small) ∙ ap (λ (o : BytesOutcome). sets queue 0 (bytesOf (o .outcome .places))) is)
 
 run-write-requires : tie.Need-run-write-requires
 run-write-requires c κs =
@@ -93,7 +94,7 @@ returns-2 c =
     ∙ bytes-run w p bytes out (f .is-sound) (f .page) (f .begins) in
     let small : Bytes after = λ i. omega (arith, c .before .before .before .before .slice-known2 .given i) in
     let same : length after ≡ length queue = omega (arith, c .before .before .before .before .before .queue .given) in
-    (is, with-tail after queue small same (steps .1) ∙ ap (λ (o : BytesOutcome). withNumbers (o .outcome .places) queue) is)
+    (is, with-tail after queue small same (steps .1) ∙ ap (λ (o : BytesOutcome). sets queue 0 (bytesOf (o .outcome .places))) is)
 
 pub write-spec : {M : Type 1} → statement M
 write-spec =

@@ -7,7 +7,7 @@ use lib.ListN.{length, getD}
 use lib.Seq.{sets}
 use borrow.Author.Needs.{needs}
 use borrow.Author.Tests.{not-true}
-use Rattle.unicode.proofs.Kit.{both-true}
+use Rattle.common.proofs.Kit.{both-true}
 use Rattle.page.specs.Page.{assigned}
 use Rattle.isolate_unassigned.specs.declared.Isolated.{Isolated}
 use Rattle.isolate_unassigned.specs.Isolate.{isolateStepOf, givesOut, after}

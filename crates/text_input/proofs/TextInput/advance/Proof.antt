@@ -5,7 +5,7 @@ use mathlib.Core.Path.{sym, ap, _∙_}
 use native.Mathlib.Omega.{arith}
 use lib.ListN.{length, getD}
 use borrow.Author.Needs.{needs}
-use Rattle.unicode.proofs.Kit.{both-true}
+use Rattle.common.proofs.Kit.{both-true}
 use Rattle.stretch.specs.declared.Sought.{Sought}
 use Rattle.stretch.specs.Stretch.{inSought, part}
 use Rattle.stretch.proofs.Parts.{part-length}

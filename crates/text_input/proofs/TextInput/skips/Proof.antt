@@ -9,7 +9,7 @@ use lib.Dec.{eqb}
 use lib.ListN.{length, getD}
 use borrow.Author.Needs.{needs}
 use borrow.Author.Tests.{not-true, not-false}
-use Rattle.unicode.proofs.Kit.{tests}
+use Rattle.common.proofs.Kit.{tests}
 use Rattle.text_input.specs.Scan.{leadingBom}
 use Rattle.text_input.proofs.TextInput.skips.Statement.{statement}
 use Rattle.text_input.proofs.TextInput.skips.Tie as tie

@@ -3,7 +3,7 @@ use mathlib.Core.Path.{refl}
 use native.Mathlib.Omega.{arith}
 use lib.ListN.{length-append}
 use borrow.Author.Needs.{needs}
-use Rattle.unicode.proofs.Lists.{sets-append}
+use Rattle.common.proofs.Lists.{sets-append}
 use Rattle.text_input.proofs.queue.put.Statement.{statement}
 use Rattle.text_input.proofs.queue.put.Tie as tie
 

@@ -4,7 +4,7 @@ use native.Mathlib.Omega.{arith}
 use lib.ListN.{length-append}
 use borrow.Author.Needs.{needs}
 use Rattle.text_input.specs.Step.{leadChars}
-use Rattle.unicode.proofs.Lists.{sets-three}
+use Rattle.common.proofs.Lists.{sets-three}
 use Rattle.text_input.proofs.queue.put_three.Statement.{statement}
 use Rattle.text_input.proofs.queue.put_three.Tie as tie
 
@@ -33,7 +33,7 @@ returns c =
     let e₂ = m .put-lead2 .ensures in
     let e₃ = n .put-lead3 .ensures in (
       simp length-append (omega (arith, e₁ .0, e₂ .0, e₃ .0)),
-      rw (e₃ .1, e₂ .1, e₁ .1, e₂ .0, e₁ .0) (sets-three (leadChars (a .a)) (leadChars (a .b)) (leadChars (a .c)) (now (a .queue)) (l .before .before .before .pre)),
+      rw (e₃ .1, e₂ .1, e₁ .1, e₂ .0, e₁ .0) (sets-three (leadChars (a .a)) (leadChars (a .b)) (leadChars (a .c)) (now (a .queue))),
     )
 
 pub put-three-spec : {M : Type 1} → statement M

@@ -1,7 +1,7 @@
 -- `guard` meets its contract: its tests are those of `guardOf`, in the same order.
 use mathlib.Core.Path.{sym}
 use borrow.Author.Needs.{needs}
-use Rattle.unicode.proofs.Kit.{tests}
+use Rattle.common.proofs.Kit.{tests}
 use Rattle.text_input.proofs.step.guard.Statement.{statement}
 use Rattle.text_input.proofs.step.guard.Tie as tie
 

@@ -1,6 +1,6 @@
 -- `leave` meets its contract: in each state its tests are those of `leaveOf`, in the same order.
 use borrow.Author.Needs.{needs}
-use Rattle.unicode.proofs.Kit.{tests}
+use Rattle.common.proofs.Kit.{tests}
 use Rattle.text_input.specs.Step.{leaveOf}
 use Rattle.text_input.proofs.Kit.{at-state}
 use Rattle.text_input.proofs.step.leave.Statement.{statement}

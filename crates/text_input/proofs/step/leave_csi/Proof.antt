@@ -1,6 +1,6 @@
 -- `leave_csi` meets its contract: its tests are those of `csiLeave`, in the same order.
 use borrow.Author.Needs.{needs}
-use Rattle.unicode.proofs.Kit.{tests}
+use Rattle.common.proofs.Kit.{tests}
 use Rattle.text_input.proofs.step.leave_csi.Statement.{statement}
 use Rattle.text_input.proofs.step.leave_csi.Tie as tie
 

@@ -1,6 +1,6 @@
 -- `leave_esc` meets its contract: its tests are those of `escLeave`, in the same order.
 use borrow.Author.Needs.{needs}
-use Rattle.unicode.proofs.Kit.{tests}
+use Rattle.common.proofs.Kit.{tests}
 use Rattle.text_input.proofs.step.leave_esc.Statement.{statement}
 use Rattle.text_input.proofs.step.leave_esc.Tie as tie
 

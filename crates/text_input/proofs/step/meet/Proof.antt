@@ -1,6 +1,6 @@
 -- `meet` meets its contract: its tests are those of `meetOf`, in the same order.
 use borrow.Author.Needs.{needs}
-use Rattle.unicode.proofs.Kit.{tests}
+use Rattle.common.proofs.Kit.{tests}
 use Rattle.text_input.specs.Step.{meetOf}
 use Rattle.text_input.proofs.step.meet.Statement.{statement}
 use Rattle.text_input.proofs.step.meet.Tie as tie

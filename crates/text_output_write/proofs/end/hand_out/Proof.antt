@@ -1,19 +1,19 @@
 -- `hand_out` meets its contract: its test is that of `handOut`.
 use mathlib.Core.Path.{refl}
 use Rattle.text_output_write.specs.Inner.{writerAt}
-use Rattle.text_output_write.proofs.Ends.{not-twice}
+use mathlib.Core.Bool.{Bool·not-not}
 use borrow.Author.Needs.{needs}
 use Rattle.text_output_write.proofs.end.hand_out.Statement.{statement}
 use Rattle.text_output_write.proofs.end.hand_out.Tie as tie
 
 returns : tie.Need-returns
 returns c =
-    let t = rw (c .before .before .start-or-none .ensures, not-twice) at (c .if1 .taken) in
+    let t = rw (c .before .before .start-or-none .ensures, Bool·not-not) at (c .if1 .taken) in
     (unfold writerAt in rw t refl, refl)
 
 returns-2 : tie.Need-returns-2
 returns-2 c =
-    let t = rw (c .before .before .start-or-none .ensures, not-twice) at (c .if1 .left) in
+    let t = rw (c .before .before .start-or-none .ensures, Bool·not-not) at (c .if1 .left) in
     (unfold writerAt in rw t refl, refl)
 
 pub hand-out-spec : {M : Type 1} → statement M

@@ -1,5 +1,5 @@
 -- `csi_step` meets its contract: its tests are those of `csiAsked`, in the same order.
-use Rattle.unicode.proofs.Kit.{tests}
+use Rattle.common.proofs.Kit.{tests}
 use Rattle.text_output_write.proofs.step.csi_step.Statement.{statement}
 use Rattle.text_output_write.proofs.step.csi_step.Tie as tie
 

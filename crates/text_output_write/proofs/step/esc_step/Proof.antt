@@ -1,5 +1,5 @@
 -- `esc_step` meets its contract: its test is that of `escAsked`.
-use Rattle.unicode.proofs.Kit.{tests}
+use Rattle.common.proofs.Kit.{tests}
 use Rattle.text_output_write.proofs.step.esc_step.Statement.{statement}
 use Rattle.text_output_write.proofs.step.esc_step.Tie as tie
 

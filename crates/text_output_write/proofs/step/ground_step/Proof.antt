@@ -1,5 +1,5 @@
 -- `ground_step` meets its contract: its tests are those of `groundAsked`, in the same order.
-use Rattle.unicode.proofs.Kit.{tests}
+use Rattle.common.proofs.Kit.{tests}
 use borrow.Author.Needs.{needs}
 use Rattle.text_output_write.proofs.step.ground_step.Statement.{statement}
 use Rattle.text_output_write.proofs.step.ground_step.Tie as tie

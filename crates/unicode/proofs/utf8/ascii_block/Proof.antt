@@ -9,8 +9,8 @@ use native.Mathlib.Omega.{arith}
 use borrow.Author.Needs.{needs}
 use borrow.Author.Tests.{ltb-true}
 use Rattle.unicode.specs.Inner.{Ascii}
-use Rattle.unicode.proofs.Kit.{both-true}
-use Rattle.unicode.proofs.Places.{none, more}
+use Rattle.common.proofs.Kit.{both-true}
+use Rattle.common.proofs.Places.{none, more}
 use Rattle.unicode.proofs.utf8.ascii_block.Statement.{statement}
 use Rattle.unicode.proofs.utf8.ascii_block.Tie as tie
 

@@ -9,7 +9,7 @@ use lib.Dec.{leb}
 use lib.ListN.{length, List·getD-eq-default}
 use Rattle.unicode.specs.Utf8.{continuation}
 use Rattle.unicode.specs.Inner.{moreOf}
-use Rattle.unicode.proofs.Kit.{both-true}
+use Rattle.common.proofs.Kit.{both-true}
 use Rattle.unicode.proofs.utf8.more.Statement.{statement}
 use Rattle.unicode.proofs.utf8.more.Tie as tie
 

@@ -1,7 +1,7 @@
 -- `unicode::utf8_step` meets its contract: its tests are those of `leadOf`, which comes to the step.
 use native.Mathlib.Omega.{arith}
 use borrow.Author.Needs.{needs}
-use Rattle.unicode.proofs.Kit.{tests}
+use Rattle.common.proofs.Kit.{tests}
 use Rattle.unicode.proofs.Steps.{past-step, lead-step}
 use Rattle.unicode.proofs.utf8.utf8_step.Statement.{statement}
 use Rattle.unicode.proofs.utf8.utf8_step.Tie as tie

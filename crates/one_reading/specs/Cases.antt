@@ -6,9 +6,10 @@ use mathlib.Core.Bool.{true, false}
 use mathlib.Core.List.{List, [], _∷_}
 use lib.ListN.{replicate}
 use Rattle.isolate_unassigned.specs.Isolate.{isolateAnswer, isolatePlaces}
 use Rattle.text_input.specs.declared.Options.{Options}
 use Rattle.text_input.specs.declared.TextInput.{TextInput}
-use Rattle.text_input.specs.Scan.{Outcome, refusalIn, wroteIn, fresh, scanOf, finishOf}
+use Rattle.common.specs.Answers.{refusalIn, wroteIn}
+use Rattle.text_input.specs.Scan.{Outcome, fresh, scanOf, finishOf}
 
 -- what is run: scans of these chunks and a finish as end of file, from a fresh record; or the isolation of a run
 pub data Trial : Type 0 where

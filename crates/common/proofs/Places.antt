@@ -5,7 +5,7 @@
 use Prim.Native.Nat.{ℕ, _+_, _≤_, _<_}
 use native.Mathlib.Omega.{arith}
 use borrow.Author.Count.{below-more}
-use Rattle.unicode.proofs.Kit.{by-lt}
+use Rattle.common.proofs.Kit.{by-lt}
 
 module _ (P : ℕ → Type 0) (f : ℕ) where
   pub none : (t : ℕ) → t ≤ f → (x : ℕ) → f ≤ x → x < t → P x

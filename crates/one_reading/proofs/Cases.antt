@@ -8,10 +8,10 @@ use Rattle.page.specs.Page.{sized, rising, nonstarter, assigned, accepted}
 use Rattle.text_utils.specs.Classes.{starter, graphemeExtendNotCgj, spacingMarkPlus, basicTextStart, basicTextEnd, isPrivateUse}
 use Rattle.replace.specs.Replace.{replaceOf}
 use Rattle.isolate_unassigned.specs.Isolate.{toIsolate, isolateStepOf as isolateStep, isolateOf}
 use Rattle.text_input.specs.Sets.{final, stringEnd, upTo7F, newlineChar, optionalLine}
 use Rattle.text_input.specs.Step.{leaveOf, meetOf, scanStepOf}
 use Rattle.text_input.specs.Scan.{refusalOf, scanOf, finishOf}
-use Rattle.text_input.specs.Cases.{Row, table, computed}
+use Rattle.one_reading.specs.Cases.{Row, table, computed}
 
 pub cases : map computed table ≡ map (λ (row : Row). row .expected) table
 unfolding table scanOf refusalOf finishOf scanStepOf leaveOf meetOf final stringEnd upTo7F newlineChar optionalLine replaceOf isChar

@@ -1,0 +1,6 @@
+-- Laws that every crate leans on: going by cases on a test, stores one after the other, and properties of a row of places; and that no
+-- two answers list alike.
+pub mod Kit
+pub mod Lists
+pub mod Places
+pub mod Answers
