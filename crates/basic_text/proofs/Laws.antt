@@ -100,11 +100,10 @@ module _ (a b c d : ℕ) (rest more : List ℕ) (ha : a < 256) (hb : b < 256) (h
       rw (ea, eb, ec, ed)
 
 -- numbers' bytes, and behind them the bytes past so many numbers
-with-rest : List ℕ → List ℕ → List ℕ
-with-rest ns queue = bytesOf ns ++ drop (4 * length ns) queue
+abbrev pub withRest : List ℕ → List ℕ → List ℕ
+withRest ns queue = bytesOf ns ++ drop (4 * length ns) queue
 
-all-is : (queue : List ℕ) → Bytes queue → with-rest (numbersOf queue) queue ≡ queue
-unfolding with-rest
+pub all-is : (queue : List ℕ) → Bytes queue → withRest (numbersOf queue) queue ≡ queue
 all-is [] k = refl
 all-is (a ∷ []) k = refl
 all-is (a ∷ b ∷ []) k = refl
@@ -115,16 +114,14 @@ all-is (a ∷ b ∷ c ∷ d ∷ rest) k =
     ∙ ap (λ (l : List ℕ). a ∷ b ∷ c ∷ d ∷ l) (all-is rest (past-four a b c d rest k)))
 
 -- where there is room
-stores-rest : (ns queue : List ℕ) → 4 * length ns ≤ length queue → sets queue 0 (bytesOf ns) ≡ with-rest ns queue
-unfolding with-rest
+pub stores-rest : (ns queue : List ℕ) → 4 * length ns ≤ length queue → sets queue 0 (bytesOf ns) ≡ withRest ns queue
 stores-rest ns queue h = rw (← (length-bytes ns)) (sets-first (bytesOf ns) queue (omega (arith, length-bytes ns)))
 
 pub with-all : (queue : List ℕ) → Bytes queue → sets queue 0 (bytesOf (numbersOf queue)) ≡ queue
 with-all queue k = stores-rest (numbersOf queue) queue (omega (arith, length-numbers queue)) ∙ all-is queue k
 
 first-is : (out queue : List ℕ) → Bytes queue → length out ≤ length (numbersOf queue) →
-    with-rest (out ++ drop (length out) (numbersOf queue)) queue ≡ with-rest out queue
-unfolding with-rest
+    withRest (out ++ drop (length out) (numbersOf queue)) queue ≡ withRest out queue
 first-is [] queue k h = all-is queue k
 first-is (n ∷ out) [] k h = absurd (omega arith)
 first-is (n ∷ out) (a ∷ []) k h = absurd (omega arith)
@@ -141,6 +138,6 @@ with-filled out queue k h =
     let ns = sets (numbersOf queue) 0 out in
     let e = length-sets (numbersOf queue) 0 out in
     stores-rest ns queue (omega (arith, e, length-numbers queue))
-    ∙ ap (λ (l : List ℕ). with-rest l queue) (sets-first out (numbersOf queue) h)
+    ∙ ap (λ (l : List ℕ). withRest l queue) (sets-first out (numbersOf queue) h)
     ∙ first-is out queue k h
     ∙ sym (stores-rest out queue (omega (arith, length-numbers queue)))

@@ -31,7 +31,7 @@ use Rattle.text_output_write.specs.Inner.{Progress, writerAt, pushed, stored, p
 use Rattle.text_output_write.proofs.Stays.{steps-stay, turn-sound}
 use Rattle.basic_text.specs.Exports.{numberOf, numbersOf, bytesOf}
 use Rattle.basic_text.specs.Inner.{tail, atPlace, placeIn, behindOf}
-use Rattle.basic_text.proofs.Laws.{Bytes, four-more, length-numbers, length-bytes, with-all}
+use Rattle.basic_text.proofs.Laws.{Bytes, four-more, length-numbers, length-bytes, with-all, all-is, stores-rest}
 use Rattle.basic_text.proofs.Stores.{sets-bytes}
 use Rattle.basic_text.proofs.Crossing.{Wide, wide-more, number-back}
 
@@ -75,7 +75,8 @@ tail-sets ns q k h =
 pub with-tail : (q q₀ : List ℕ) → Bytes q → length q ≡ length q₀ → tail q ≡ tail q₀ → q ≡ sets q₀ 0 (bytesOf (numbersOf q))
 with-tail q q₀ b l t =
     let e : length (numbersOf q) ≡ length (numbersOf q₀) = omega (arith, length-numbers q, length-numbers q₀) in
-    sym (with-all q b) ∙ ap (λ (r : List ℕ). bytesOf (numbersOf q) ++ r) (rw (← e) at t)
+    sym (all-is q b) ∙ ap (λ (r : List ℕ). bytesOf (numbersOf q) ++ r) (rw (← e) at t)
+    ∙ sym (stores-rest (numbersOf q) q₀ (omega (arith, e, length-numbers q₀)))
 
 -- ---- steps moved
 moved-by : (k : ℕ) (x : Pushed) (escape few places : List ℕ) →

@@ -1,6 +1,7 @@
 -- `basic_text::basic_text_finish` meets its contract: the finish of the record that was read, answered in numbers.
 use mathlib.Core.Path.{_≡_, ap, _∙_}
 use borrow.Author.Needs.{needs}
+use lib.Seq.{sets}
 use Rattle.text_input.specs.Scan.{Outcome, finishOf}
 use Rattle.basic_text.specs.Exports.{numbersOf, flag, recordOf, replyOf, bytesOf}
 use Rattle.basic_text.proofs.basic_text_finish.Statement.{statement}

@@ -35,7 +35,7 @@ read : (c : tie.After-read-numbers) →
 read c =
     let s = Entry c in
     let m = length (s .args .bytes .now) / 4 in
-    let h = stored-first (chars s) _ _ m (sym (length-numbers (s .args .bytes .now))) (c .read-numbers .ensures) in
+    let h = stored-first (chars s) _ _ m (sym (length-numbers (s .args .bytes .now))) (s .pre .1 .0) (c .read-numbers .ensures) in
     (h .0, rw sub-zero (h .1))
 
 run-requires : tie.Need-run-requires
@@ -61,7 +61,10 @@ ran c = rw (read (Read c) .1) at (c .run .ensures)
 held : (c : tie.After-run) →
     (c .run .result .written ≤ length (c .run .last .1 .1 .1 .1 .0))
     × (take (c .run .result .written) (c .run .last .1 .1 .1 .1 .0) ≡ out (Entry (Read c)))
-held c = stored-first (out (Entry (Read c))) _ _ _ (ran c .0) (ran c .1 .1)
+held c =
+    let s = Entry (Read c) in
+    stored-first (out s) (s .args .places .now) _ _ (ran c .0)
+    (omega (arith, room (s .args .page .now) (s .args .options) (s .args .r) (chars s), s .pre .1 .1 .0)) (ran c .1 .1)
 
 write-numbers-requires : tie.Need-write-numbers-requires
 write-numbers-requires c κs =
