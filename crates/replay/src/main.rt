@@ -9,15 +9,15 @@
 mod current;
 
 use libc::STDIN_FILENO;
+use replay_streams::filling;
+use replay_streams::scanner;
 use replay_words::answer;
 use replay_words::answer::Why;
 use replay_words::blank;
 use replay_words::front;
 use replay_words::lines;
-use replay_streams::filling;
-use replay_streams::scanner;
-use text_input::TextInput;
 use replay_writer::Current;
+use text_input::TextInput;
 
 // What lasts from line to line beside the lent buffers.
 pub struct State {

@@ -1,9 +1,9 @@
 // The operations on one character: `L replace`, `L check`, `L start` and `L end`.
 use crate::reason;
 use check_char::BasicTextError;
+use replace::Replaced;
 use replay_words::answer;
 use replay_words::front;
-use replace::Replaced;
 use text_utils::Class;
 
 // `ok n=N out=LIST` with the first n of three characters.

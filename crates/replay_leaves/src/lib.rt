@@ -4,6 +4,7 @@ mod chars;
 mod reason;
 mod runs;
 
+pub use reason::told;
 use replay_words::answer;
 use replay_words::answer::Why;
 use replay_words::front;
@@ -11,7 +12,6 @@ use replay_words::words;
 use replay_words::words::Rest;
 use replay_words::words::Single;
 use replay_words::words::Stored;
-pub use reason::told;
 pub use runs::outcome;
 
 // Which operation on one character.

@@ -8,9 +8,6 @@
 mod places;
 mod told;
 
-use text_output_lent::abandon_by_loan;
-use text_output_lent::close_by_loan;
-use text_output_lent::flush_by_loan;
 use replay_words::answer;
 use replay_words::answer::Why;
 use replay_words::blank;
@@ -26,6 +23,9 @@ use text_output::TextOutput;
 use text_output::Written;
 use text_output::WrittenBytes;
 use text_output::Wrote;
+use text_output_lent::abandon_by_loan;
+use text_output_lent::close_by_loan;
+use text_output_lent::flush_by_loan;
 use told::Used;
 
 // The current writer.

@@ -19,7 +19,6 @@ use Rattle.text_output_write.specs.Inner.{pushed, writerAfter, stored, i
 use Rattle.text_output_write.proofs.Rest.{run-rest}
 use Rattle.text_output_write.proofs.Stays.{Stays, stays-more, rest-stays}
 
-
 -- what stays in a write, and how much it adds
 run-stays : (mode : Mode) (p cs : List ℕ) (w : TextOutput) → sound w ≡ true → Stays (3 * length cs) w (runIn mode p w cs)
 run-stays mode p cs w s =
