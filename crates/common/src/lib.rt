@@ -1,5 +1,6 @@
-// What all crates share and none owns: the refusals by name, and the answer of a call that writes lent places.
-// The definitions write the numbers, as document 01 lists them, and the code these names.
+// What all crates share and none owns: the refusals by name, the answer of a call that writes lent places, and the lesser of two.
+// The definitions write the refusals' numbers, as document 01 lists them, and the code these names.
+ghost use Prim.Native.Nat.{_≤_};
 
 // A value in D800..DFFF or above 10FFFF.
 pub const NOT_A_CHAR: u32 = 1;
@@ -44,4 +45,11 @@ pub const IN_ESCAPE: u32 = 13;
 pub enum Answer {
     Written(usize),
     Refused(u32),
+}
+
+// The lesser of the two; the contract says no more than is asked. Inner; total.
+pub fn lesser(a: usize, b: usize) -> usize
+    ensures { λ r. ⌜ (r ≤ a) × (r ≤ b) ⌝ }
+{
+    if a < b { a } else { b }
 }

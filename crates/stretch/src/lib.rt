@@ -5,6 +5,7 @@
 //     lib.rt     the end of a stretch, and its copy
 mod gaps;
 
+use common::lesser;
 pub use gaps::first_gap;
 pub use gaps::next_gap;
 use ranges::Range;
@@ -89,13 +90,6 @@ fn blocks(s: &[u32], from: usize, sought: Sought) -> usize
         i += 16;
     }
     i
-}
-
-// The lesser of the two; the contract says no more than is asked.
-fn lesser(a: usize, b: usize) -> usize
-    ensures { λ r. ⌜ r ≤ a ⌝ }
-{
-    if a < b { a } else { b }
 }
 
 // The same, one by one, and at most so many.

@@ -3,6 +3,7 @@
 use super::is_char;
 use common::NO_ROOM;
 use common::NOT_A_CHAR;
+use common::lesser;
 ghost use mathlib.Core.Path.{_≡_};
 ghost use mathlib.Core.Bool.{true};
 ghost use Prim.Native.Nat.{_+_, _≤_, _<_};
@@ -188,13 +189,6 @@ pub fn valid_prefix(bytes: &[u8]) -> Prefix
             chars = chars + (at - next);
         }
     }
-}
-
-// The lesser of the two.
-fn lesser(a: usize, b: usize) -> usize
-    ensures { λ r. ⌜ (r ≤ a) × (r ≤ b) ⌝ }
-{
-    if a < b { a } else { b }
 }
 
 // Stores the ASCII from `from` on in the places of out from `at` on, as much as they take, and answers the place after it.
