@@ -1,6 +1,4 @@
--- Which characters are refused, and why: `check_basic_text_char` of internals/src/check.rs. "4 a character refused by
--- `check_basic_text_char` .., with the reason as the place in `BasicTextError` counted from 1 (2 to 16; 1 is unused); reasons 2,
--- 3, 13, 16 carry it, 16 also its one to three replacements."
+-- Which characters are refused, and why: `check_basic_text_char` of internals/src/check.rs.
 use Prim.Native.Nat.{ℕ}
 use mathlib.Core.Bool.{Bool, true, cond, not, _&&_, _||_}
 use mathlib.Core.List.{List, [], _∷_}
@@ -58,7 +56,8 @@ refusals =
     one 0xfffc gives 12 ∷
     one 0xfeff gives 11 ∷ []))))
 
--- the reason's number, and 0 where c is accepted
+-- the reason's number, and 0 where c is accepted: "4 a character refused by `check_basic_text_char`". "`check_basic_text_char` accepts
+-- 1B." The table is its list, so "a check that gives every character reason 16" does not pass.
 unfoldable pub reasonOf : ℕ → ℕ
 reasonOf c = lookup refusals 0 c
 
@@ -73,6 +72,7 @@ abbrev pub listNumbers : Replacements → List ℕ
 listNumbers l = l .count ∷ l .first ∷ l .second ∷ l .third ∷ []
 
 -- a reason's number and its values
+-- "the reason as the place in `BasicTextError` counted from 1 (2 to 16; 1 is unused)"
 abbrev pub errorNumbers : BasicTextError → List ℕ
 errorNumbers ColorEscapeSequence = 1 ∷ []
 errorNumbers (ControlCode c) = 2 ∷ c ∷ []
@@ -96,7 +96,8 @@ abbrev pub reasonNumbers : Checked → List ℕ
 reasonNumbers Ok = 0 ∷ []
 reasonNumbers (Err e) = errorNumbers e
 
--- the values that reason r carries for c: 2, 3 and 13 the character, 16 also its replacements. A character without a row is its own:
+-- the values that reason r carries for c: "reasons 2, 3, 13, 16 carry it, 16 also its one to three replacements." A character without
+-- a row is its own:
 -- "Reason 16 for 2126 names 2126 itself."
 abbrev pub carried : ℕ → ℕ → List ℕ
 carried r c =
@@ -112,7 +113,7 @@ checkAnswerNumbers Accepted = 0 ∷ []
 checkAnswerNumbers NotAChar = 1 ∷ []
 checkAnswerNumbers (Refused e) = 4 ∷ errorNumbers e
 
--- "Entries on one character give 1 .., the check then 4"
+-- "Entries on one character give 1 .. the check then 4."
 abbrev pub checkAnswer : ℕ → List ℕ
 checkAnswer c = cond (isChar c) (cond (eqb (reasonOf c) 0) (0 ∷ []) (4 ∷ checkNumbers c)) (1 ∷ [])
 

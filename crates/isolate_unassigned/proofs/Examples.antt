@@ -30,6 +30,7 @@ table =
     ∷ (0xE000 ∷ [], 0xE000 ∷ [])
     ∷ []
 
+-- "so 378 378 gives 34F 378 34F 378 34F; one that follows an unchanged neighbour gets its own. So 34F 378 61 is unchanged."
 pub examples : (accepted page ≡ true) × (map (λ (row : List ℕ × List ℕ). isolateOf page (row .0)) table ≡ map (λ (row : List ℕ × List ℕ). row .1) table)
 unfolding accepted sized rising rises nonstarter assigned member isPrivateUse toIsolate isolateStepOf isolateOf
 examples = (refl, refl)

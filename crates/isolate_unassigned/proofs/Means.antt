@@ -46,6 +46,7 @@ module _ (p : List ℕ) (a : toIsolate p 0x34F ≡ false) where
       (λ e. rw (e, put-before _ _ _ _ (joiner-not c) (got-none before) e) (ap (λ (l : List ℕ). 0x34F ∷ c ∷ l) (means cs (c ∷ before))))
       (λ e. rw (e, ← not-put-before _ _ e) (ap (λ (l : List ℕ). c ∷ l) (means cs (c ∷ before))))
 
+-- so "an isolator that does nothing" does not pass, nor "putting 34F after each unassigned character"
 pub isolate-means : (p cs : List ℕ) → accepted p ≡ true → isolateOf p cs ≡ isolated p cs
 unfolding isolateOf
 isolate-means p cs a = means p (joiner-assigned p a) cs []

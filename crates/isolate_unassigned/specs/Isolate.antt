@@ -13,7 +13,7 @@ use Rattle.isolate_unassigned.specs.declared.IsolateUnassigned.{IsolateU
 use Rattle.isolate_unassigned.specs.declared.Isolated.{Isolated}
 use Rattle.isolate_unassigned.specs.declared.Isolated.the-variants.{One, Two}
 
--- "an unassigned character outside private use"
+-- "`IsolateUnassigned`: an unassigned character outside private use"
 unfoldable pub toIsolate : List ℕ → ℕ → Bool
 toIsolate p c = not (assigned p c || isPrivateUse c)
 
@@ -31,6 +31,7 @@ abbrev pub puts : List ℕ → IsolateUnassigned → ℕ → Bool
 puts p r c = (r .«need_cgj» && not (eqb c 0x34F)) || (toIsolate p c && not (r .«have_cgj»))
 
 -- `next` on a character
+-- "The iterator chain with `Rc<RefCell>`: records by value whose step answers an enum."
 unfoldable pub isolateStepOf : List ℕ → IsolateUnassigned → ℕ → Isolated
 isolateStepOf p r c = cond (puts p r c) (Two 0x34F c (isolatorOf (toIsolate p c) false)) (One c (isolatorOf false (eqb c 0x34F)))
 

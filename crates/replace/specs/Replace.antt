@@ -1,5 +1,4 @@
--- What each character is replaced by: `replace` of internals/src/replace.rs, row by row in its order. "Replacement is one
--- decision over all characters, as `replace` has it; anything else is itself."
+-- What each character is replaced by: `replace` of internals/src/replace.rs, row by row in its order.
 use Prim.Native.Nat.{ℕ}
 use mathlib.Core.List.{List, [], _∷_, _++_}
 use Rattle.replace.specs.declared.Replaced.{Replaced}
@@ -58,6 +57,7 @@ removed =
     one 0xe0001 ∷
     nonchars)
 
+-- its rows: "Replacement is one decision over all characters, as `replace` has it"
 abbrev pub replacements : List (Row Replaced)
 replacements =
     one 0xfeff gives One 0x2060 ∷
@@ -83,7 +83,7 @@ replacements =
     one 0x85 gives One 0x20 ∷
     each removed (One 0xfffd) []
 
--- what replaces c: its row's answer, and c itself where no row has it
+-- what replaces c: its row's answer, and "anything else is itself"
 unfoldable pub replaceOf : ℕ → Replaced
 replaceOf c = lookup replacements (One c) c
 

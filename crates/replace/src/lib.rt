@@ -12,7 +12,8 @@ pub enum Replaced {
     Three(u32, u32, u32),
 }
 
-// What replaces c; any other number is itself. Inner: it does not ask whether c is a character.
+// What replaces c; any other number is itself. Inner: it does not ask whether c is a character. "'Replacement is one decision over all
+// characters': A match on the character with single values and ranges, arms for ligatures, controls and noncharacters."
 pub fn replace(c: u32) -> Replaced
     ensures { λ r. ⌜ r ≡ replaceOf c ⌝ }
 {

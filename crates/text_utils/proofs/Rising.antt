@@ -1,6 +1,5 @@
--- "In the grapheme and spacing-mark tables each list rises strictly and its ranges never overlap": one test that antt computes for
--- each table, and the law of any rising list. The Rust's two tables that differ from Unicode's are Unicode's without the characters
--- that the Rust leaves out.
+-- The tables rise: one test that antt computes for each, and the law of any rising list. The Rust's two tables that differ from
+-- Unicode's are Unicode's without the characters that the Rust leaves out.
 --     TABLE-rises                        what `in_ranges` asks of the table
 --     strictly                           so every table, Unicode's and the Rust's, rises strictly, and its ranges never overlap
 --     no-cgj, no-cgj-rises               Grapheme_Extend without CGJ
@@ -21,6 +20,7 @@ no-cgj = minus 0x34f 0x34f graphemeExtend
 abbrev pub as-in-rust : List (ℕ × ℕ)
 as-in-rust = minus 0x890 0x891 prependedConcatenationMark
 
+-- "rising order proved by one computed test and carried to membership": here, and of every table below
 pub no-cgj-rises : rises 0 (firstsOf no-cgj) (lastsOf no-cgj) ≡ true
 unfolding rises
 no-cgj-rises = refl
@@ -70,6 +70,7 @@ pub high-spacing : rises 0x300 (firstsOf spacingMark) (lastsOf spacingMark) ≡ 
 unfolding rises
 high-spacing = refl
 
+-- "In the grapheme and spacing-mark tables each list rises strictly and its ranges never overlap."
 pub strictly :
     RisesStrictly (firstsOf no-cgj) (lastsOf no-cgj)
     × RisesStrictly (firstsOf graphemeExtend) (lastsOf graphemeExtend)

@@ -1,5 +1,5 @@
--- The boundary classes: "Start and end as `is_basic_text_start`, `is_basic_text_end`" of internals/src/text_utils.rs, over the
--- properties of UAX #44 and the rules of UAX #29, Table 2. They are defined on every number.
+-- The boundary classes of internals/src/text_utils.rs, over the properties of UAX #44 and the rules of UAX #29, Table 2. They are
+-- defined on every number.
 use mathlib.Core.Bool.{Bool, not, cond, _&&_, _||_}
 use mathlib.Core.List.{List, [], _∷_}
 use Prim.Native.Nat.{ℕ}
@@ -28,8 +28,9 @@ graphemeExtendNotCgj c = listed graphemeExtend c && not (eqb c 0x34f)
 unfoldable pub spacingMarkPlus : ℕ → Bool
 spacingMarkPlus c = eqb c 0xe33 || eqb c 0xeb3 || (listed spacingMark c && not (listed spacingMarkExceptions c))
 
--- `is_basic_text_start`: a starter that is neither ZWJ, nor Extend (CGJ apart), nor SpacingMark. Extend is Grapheme_Extend = Yes or
--- Emoji_Modifier = Yes (UAX #29, Table 2)
+-- "Start and end as `is_basic_text_start`, `is_basic_text_end`." A start: a starter that is neither ZWJ, nor Extend (CGJ apart), nor
+-- SpacingMark. Extend is Grapheme_Extend = Yes or Emoji_Modifier = Yes (UAX #29, Table 2). "The Unicode Standard with UAX #29 and #44,
+-- the Basic Text specification .. define": the last one's text is not at hand (docs/DIFFERENCES.md)
 unfoldable pub basicTextStart : List ℕ → ℕ → Bool
 basicTextStart p c =
     starter p c
@@ -43,7 +44,7 @@ basicTextStart p c =
 abbrev pub lackedByRust : ℕ → Bool
 lackedByRust c = leb 0x890 c && leb c 0x891
 
--- `is_basic_text_end`: neither ZWJ nor Prepend, as the Rust lists Prepend
+-- "Start and end as `is_basic_text_start`, `is_basic_text_end`." An end: neither ZWJ nor Prepend, as the Rust lists Prepend
 unfoldable pub basicTextEnd : ℕ → Bool
 basicTextEnd c =
     not (eqb c 0x200d)
@@ -61,6 +62,7 @@ abbrev pub flag : Bool → ℕ
 flag b = cond b 1 0
 
 -- an answer by document 01's numbers: 0 and whether c is in the class, or the refusal's number
+-- "a definition lists this paper's number and values for each case"
 abbrev pub classNumbers : Class → List ℕ
 classNumbers (Is b) = 0 ∷ flag b ∷ []
 classNumbers (Refused n) = n ∷ []

@@ -19,17 +19,17 @@ Example cs bs = (encodeAll cs ≡ bs) × (charsOf bs ≡ cs)
 example : (cs bs : List ℕ) → areChars cs ≡ true → encodeAll cs ≡ bs → Example cs bs
 example cs bs s e = (e, rw (← e) (decode-encode cs s))
 
--- "A<NOT IDENTICAL TO><ALPHA>."
+-- RFC 3629, section 7: "A<NOT IDENTICAL TO><ALPHA>."
 not-identical : Example (0x41 ∷ 0x2262 ∷ 0x391 ∷ 0x2E ∷ []) (0x41 ∷ 0xE2 ∷ 0x89 ∷ 0xA2 ∷ 0xCE ∷ 0x91 ∷ 0x2E ∷ [])
 unfolding encodeOf isChar
 not-identical = example _ _ refl refl
 
--- "hangugeo", the Korean language
+-- RFC 3629, section 7: "hangugeo", the Korean language
 hangugeo : Example (0xD55C ∷ 0xAD6D ∷ 0xC5B4 ∷ []) (0xED ∷ 0x95 ∷ 0x9C ∷ 0xEA ∷ 0xB5 ∷ 0xAD ∷ 0xEC ∷ 0x96 ∷ 0xB4 ∷ [])
 unfolding encodeOf isChar
 hangugeo = example _ _ refl refl
 
--- "nihongo", the Japanese language
+-- RFC 3629, section 7: "nihongo", the Japanese language
 nihongo : Example (0x65E5 ∷ 0x672C ∷ 0x8A9E ∷ []) (0xE6 ∷ 0x97 ∷ 0xA5 ∷ 0xE6 ∷ 0x9C ∷ 0xAC ∷ 0xE8 ∷ 0xAA ∷ 0x9E ∷ [])
 unfolding encodeOf isChar
 nihongo = example _ _ refl refl

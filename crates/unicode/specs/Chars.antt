@@ -8,7 +8,7 @@ use lib.Dec.{leb, ltb}
 unfoldable pub isChar : ℕ → Bool
 isChar c = not ((leb 0xD800 c && leb c 0xDFFF) || ltb 0x10FFFF c)
 
--- every number of a list is a character
+-- every number of a list is a character. "Characters are lent as 32-bit numbers.": a lent number need not be one
 abbrev pub areChars : List ℕ → Bool
 areChars [] = true
 areChars (c ∷ cs) = isChar c && areChars cs

@@ -14,7 +14,7 @@ use Rattle.unicode.specs.declared.utf8.Utf8Step.the-variants.{Char, Stop
 use lib.Seq.{sets}
 use Rattle.unicode.specs.Chars.{isChar, areChars}
 
--- the bytes that encode a character: section 3, the table
+-- the bytes that encode a character: section 3, the table. ".. and RFC 3629 (UTF-8) define"
 --     0000..007F     0xxxxxxx
 --     0080..07FF     110xxxxx 10xxxxxx
 --     0800..FFFF     1110xxxx 10xxxxxx 10xxxxxx
@@ -58,6 +58,7 @@ stepBelow (suc c) bs at =
     cond (isChar c && begins (encodeOf c) bs) (Char c (at + length (encodeOf c))) (stepBelow c bs at)
 
 -- the character whose encoding stands at `at` (no two do: `step-exactly`), and the place after it; Stop where none stands there
+-- "a decoded character is taken apart from the stop that ends the valid prefix"
 unfoldable pub utf8StepOf : List ℕ → ℕ → Utf8Step
 utf8StepOf bs at = stepBelow 0x110000 (drop at bs) at
 
@@ -71,7 +72,7 @@ abbrev pub charsFrom : ℕ → List ℕ → ℕ → List ℕ
 charsFrom zero bs at = []
 charsFrom (suc n) bs at = onChar (utf8StepOf bs at) (λ next. charsFrom n bs next)
 
--- the characters of the longest valid prefix (`longest`, `longest-only`)
+-- the characters of the longest valid prefix (`longest`, `longest-only`): "Byte writes take the longest valid prefix"
 unfoldable pub charsOf : List ℕ → List ℕ
 charsOf bs = charsFrom (length bs) bs 0
 
@@ -95,11 +96,13 @@ decodePlaces bs out = sets out 0 (decodeOf bs out)
 
 -- ---- writing
 -- an answer by document 01's numbers: 0 and the place after what was written, or the refusal's number
+-- "Where an answer is an enum, a definition lists this paper's number and values for each case. The promises use that definition."
 abbrev pub encodedNumbers : Encoded → List ℕ
 encodedNumbers (Next at) = 0 ∷ at ∷ []
 encodedNumbers (Refused n) = n ∷ []
 
--- the number of the refusal of c at `at`, and 0 for none: 1 for a number that is no character, 8 for too few bytes from there on
+-- the number of the refusal of c at `at`, and 0 for none: 1 for a number that is no character, "8 too few free places" for too few
+-- bytes from there on
 abbrev pub encodeRefusal : ℕ → List ℕ → ℕ → ℕ
 encodeRefusal c buf at = cond (not (isChar c)) 1 (cond (ltb (length buf) (at + length (encodeOf c))) 8 0)
 

@@ -13,7 +13,7 @@ ghost use Rattle.unicode.specs.Chars.{isChar};
 ghost use Rattle.unicode.specs.Utf8.{encodeOf, utf8StepOf, charsOf, countsOf, decodeOf, decodePlaces, encodedNumbers, encodeAnswer, encodeBytes};
 ghost use Rattle.unicode.specs.Inner.{moreOf, keptOf, twoOf, threeOf, fourOf, Ascii, AsciiTo, AsciiIn};
 
-// What stands at a place: a character with the place after it, or none.
+// What stands at a place: a character with the place after it, or none. "The UTF-8 step answers an enum"
 pub enum Utf8Step {
     Char(u32, usize),
     Stop,
@@ -172,7 +172,7 @@ fn ascii_end(bytes: &[u8], from: usize, stop: usize) -> usize
 }
 
 // The longest valid prefix. Total. The ASCII after an ASCII character is stepped over at once. The loop ends where the step
-// finds no character.
+// finds no character: "let .. else takes character and next place, or ends the prefix."
 pub fn valid_prefix(bytes: &[u8]) -> Prefix
     ensures { λ r. ⌜ r ≡ countsOf (charsOf (now (bytes .entry))) ⌝ }
 {
