@@ -1,14 +1,19 @@
 #!/usr/bin/env python3
-"""Holds docs/PROOFS.md and the wrong programs to document 01 and to the tree.
+"""Holds the tree to document 01, sentence by sentence, and to those requests of document 02 that docs/REQUESTS.md has (`## A.n`).
 
-    tools/check_documents.py
+    tools/check_documents.py        says what is wrong, or counts what it read
+    tools/check_documents.py map    prints each sentence with the items that quote it and the wrong programs that break it
 
-reads document 01 beside the repository, ../shared/docs/01-scope.md, or where DOCUMENT_01 says, and fails unless
-  - docs/PROOFS.md has document 01's headings in order, each quotation in its first column is exact and in order, and every
-    sentence or clause of document 01 meets a row;
-  - every name that its tables cite, as `name` (crate, File), `name` (crate) or a wrong program, stands there;
-  - every wrong program has a line `# Breaks:`, whose quotations are exact.
-It says what is wrong, or counts what it read. Without document 01 it says NOT CHECKED, which is a failure where CI is set.
+A quotation is what stands between two `"` in a comment of crates/*/specs, proofs or src, or in the line `# Breaks:` of a wrong
+program. In it ` .. ` leaves words out, and `'` stands for a `"`; what follows three blanks on a line is a note in the margin.
+The item right under the comment (a definition, theorem, function, constant, field) cites the sentences in which the quotation
+stands; a comment above no item, as the head of a file, cites nothing. It fails
+  - on words of a sentence that no item quotes, unless NO_PROOF has the sentence or its line is marked (02);
+  - on a quotation that stands word for word in neither document. One of three words or more may stand in a file of the Rust
+    instead, and one behind the name of another source (OTHERS) on its line is not looked up;
+  - on a wrong program that quotes nothing, or a sentence that no item cites.
+Documents and Rust are in ../shared/docs, or where DOCUMENT_01, DOCUMENT_02 and BASIC_TEXT_SRC say. Without them it says NOT
+CHECKED, which is a failure where CI is set.
 """
 import glob
 import os
@@ -17,164 +22,218 @@ import sys
 
 ROOT = os.path.dirname(os.path.dirname(os.path.abspath(__file__)))
 CRATES = os.path.join(ROOT, "crates")
-DOCUMENT = os.environ.get("DOCUMENT_01", os.path.join(ROOT, "..", "shared", "docs", "01-scope.md"))
-PROOFS = os.path.join(ROOT, "docs", "PROOFS.md")
+SHARED = os.path.join(ROOT, "..", "shared", "docs")
+DOCUMENT_01 = os.environ.get("DOCUMENT_01", os.path.join(SHARED, "01-scope.md"))
+DOCUMENT_02 = os.environ.get("DOCUMENT_02", os.path.join(SHARED, "02-change-requests.md"))
+RUST = os.environ.get("BASIC_TEXT_SRC", os.path.join(SHARED, "src"))
+REQUESTS = os.path.join(ROOT, "docs", "REQUESTS.md")
+OTHERS = ("RFC 3629", "UAX #29", "UAX #44")
+
+# The sentences that owe no proof, by their first words, and why.
+NO_PROOF = {
+    "Paths name files": "it names the source",
+    "Its behaviour decides": "the Rust is compared, not proved: harness/README.md",
+    "a difference is recorded": "in docs/DIFFERENCES.md",
+    "Characters are hexadecimal": "notation",
+    "Inside: the files": "the scope: README.md has the crates",
+    "Left out:": "left out here and in the oracle: harness/README.md",
+    "Added: the page": "a list of what has its own sentences below",
+    "The harness builds the page": "about the harness: harness/src/page.rs",
+    "Run: 135 and 136": "run and compared: harness/compare, the kinds cases and write-cases",
+    "unicode.rs 79": "the list of files",
+    "text_substring.rs": "not ported",
+    "We read the code": "about the reader",
+    "Each place below": "about the lines that follow, which are quoted",
+    "A line marked (02)": "about document 02",
+    "Although the proofs": "about the line that follows, which is quoted",
+    "When a form can't": "none had to be replaced: docs/DECISIONS.md",
+    "Each public entry states": "asked of every contract: README.md, How to read the proofs",
+    "For anything left": "nothing is left to the program: the contract of an entry is an equation",
+    "Other cases and published": "run and compared: harness/compare",
+}
+
 wrong = []
-files = {}
+met = set()
 
 
 def read(path):
-    if path not in files:
-        with open(path, encoding="utf8") as f:
-            files[path] = f.read()
-    return files[path]
+    with open(path, encoding="utf8") as f:
+        return f.read()
 
 
-def cells(line):
-    return [c.strip().replace("\\|", "|") for c in re.split(r"(?<!\\)\|", line)[1:-1]]
+class Clause:
+    """A sentence of a document or a part of it: its words by their places in the line, and who quotes which of them."""
+
+    def __init__(self, heading, line, start, end, why_not):
+        self.heading, self.text, self.why_not = heading, line[start:end].strip(" -"), why_not
+        self.words = {(start + m.start(), start + m.end()): m.group() for m in re.finditer(r"\w+", line[start:end])}
+        self.quoted, self.items, self.programs = set(), [], []
+
+    def missing(self):
+        return [] if self.why_not else [w for place, w in self.words.items() if place not in self.quoted]
 
 
-def find(quotation, text, start):
-    """Where a quotation stands in a text from a place on, ` .. ` leaving words out; None where it does not."""
-    parts = [quotation] if text.find(quotation, start) >= 0 else quotation.split(" .. ")
-    first, at = None, start
-    for part in parts:
-        i = text.find(part, at)
-        if i < 0:
-            return None
-        first = i if first is None else first
-        at = i + len(part)
-    return first, at
+def clauses(heading, line):
+    """A line of a document, cut at full stops and semicolons."""
+    start = 0
+    for m in re.finditer(r"(?<! \.)[.;](?=\s)|$", line):
+        text = line[start : m.end()].strip(" -")
+        if start == 0 or line[start - 1] == ".":
+            why_not = "marked (02)" if "(02):" in line else None
+        for first, reason in NO_PROOF.items():
+            if text.startswith(first):
+                why_not = reason
+                met.add(first)
+        if re.search(r"\w", text) and not re.fullmatch(r"\d+\.?", text):
+            yield Clause(heading, line, start, m.end(), why_not)
+        start = m.end()
 
 
-def sections():
-    """Document 01 by its headings."""
-    found = [("(opening)", [])]
-    for line in read(DOCUMENT).split("\n"):
-        if line.startswith("## "):
-            found.append((line[3:].strip(), []))
-        elif not line.startswith("# "):
-            found[-1][1].append(line)
-    return [(heading, "\n".join(lines)) for heading, lines in found]
+def documents():
+    """The lines of both documents with their clauses: of document 01 all, of document 02 those of the requests that are here."""
+    lines, heading = [], "(opening)"
+    for line in read(DOCUMENT_01).replace('"', "'").split("\n"):
+        heading = line[3:] if line.startswith("## ") else heading
+        lines.append((line, [] if line.startswith("#") else list(clauses(heading, line))))
+    here = re.findall(r"^## (A\.\d+)\b", read(REQUESTS), re.M) if os.path.isfile(REQUESTS) else []
+    for line in read(DOCUMENT_02).replace('"', "'").split("\n"):
+        title = re.match(r"\*\*(A\.\d+) .*?\*\*", line)
+        lines.append((line, []))
+        if title and title.group(1) in here:
+            text = line[title.end() :]
+            lines.append((text, list(clauses(title.group(1), text))))
+    return lines
 
 
-def clauses(body):
-    """The places of its sentences and clauses: lines, cut at full stops and semicolons."""
-    for line in re.finditer(r"[^\n]+", body):
-        start, end = line.span()
-        cuts = [start] + [start + m.end() for m in re.finditer(r"[.;](?=\s)", line.group())] + [end]
-        for a, b in zip(cuts, cuts[1:]):
-            text = body[a:b].strip(" -")
-            if re.search(r"\w", text) and not re.fullmatch(r"\d+\.?", text):
-                yield a, b, text
+def stands(quotation, text):
+    """Where a quotation stands in a text: for each time the places of its parts."""
+    parts = [quotation] if quotation in text else [p.strip() for p in re.split(r"(?:^| )\.\.(?: |$)", quotation) if p.strip()]
+    patterns = [re.compile(r"(?<!\w)" + re.escape(p) + r"(?!\w)") for p in parts]
+    for first in patterns[0].finditer(text) if patterns else ():
+        found = [first]
+        for pattern in patterns[1:]:
+            found.append(found[-1] and pattern.search(text, found[-1].end()))
+        if found[-1]:
+            yield [m.span() for m in found]
 
 
-def check_sentences(tables):
-    """The rows against document 01; how many rows and clauses."""
-    rows = clause_count = 0
-    if [h for h, _ in tables] != [h for h, _ in sections()]:
-        wrong.append("docs/PROOFS.md: headings other than document 01's")
-        return 0, 0
-    for (heading, body), (_, lines) in zip(sections(), tables):
-        spans, last = [], 0
-        for row in lines:
-            rows += 1
-            span = find(row[0][1:-1], body, last)
-            if span is None:
-                wrong.append(f"docs/PROOFS.md, {heading}: not there, or not in order: {row[0]}")
-            else:
-                spans.append(span)
-                last = span[0]
-        for a, b, text in clauses(body):
-            clause_count += 1
-            if not any(x < b and y > a for x, y in spans):
-                wrong.append(f"docs/PROOFS.md, {heading}: no row for: {text}")
-    return rows, clause_count
+def cite(quotation, lines):
+    """The clauses in which a quotation stands, each with the places of the quoted words; None where no line has it."""
+    cited, there = [], False
+    for line, parts in lines:
+        for places in stands(quotation, line):
+            there = True
+            for clause in parts:
+                words = {(a, b) for a, b in clause.words for x, y in places if x <= a and b <= y}
+                if words:
+                    cited.append((clause, words))
+    return cited if there else None
 
 
-CITED = re.compile(r"((?:`[^`]+`(?:, | and | with | of | or )?(?:its [a-z ]+)?)+) \(([a-z_]+)(?:, ([A-Za-z0-9]+))?\)")
+KEYWORDS = {"abbrev", "unfoldable", "pub", "record", "data", "ruleset", "extern", '"C"', "fn", "const", "struct", "enum", "impl"}
 
 
-def declared(name, text):
-    n = re.escape(name)
-    marks = r"^\s*(?:(?:abbrev|unfoldable|pub|record|data)\s+)*(?:[\w→-]+\s+)*?"
-    return re.search(marks + n + r"(?:\s+[\w→-]+)*(?:\s+[({][^)}\n]*[)}])*\s*:(?!:)", text, re.M) or re.search(
-        rf"^pub ruleset {n} =", text, re.M
-    )
+def name_in(line):
+    return next((w for w in re.findall(r"[^\s:(){}<>;,=]+", line) if w not in KEYWORDS), None)
 
 
-def stands(kind, name, crate, file):
-    """Whether a name stands where a table says. `kind` is the folder: specs, proofs or must-fail."""
-    folder = os.path.join(CRATES, crate)
-    if kind == "must-fail":
-        return os.path.isfile(os.path.join(folder, kind, name + ".edit"))
-    if file and file != "src":
-        path = os.path.join(folder, kind, file + ".antt")
-        return os.path.isfile(path) and declared(name, read(path))
-    code = "\n".join(read(f) for f in glob.glob(os.path.join(folder, "src", "**", "*.rt"), recursive=True))
-    words = "struct|enum" if file else "fn|const"
-    return re.search(rf"\b({words}) {re.escape(name.split('::')[-1])}\b", code)
+def comments(path):
+    """The comments of a file, each as its lines, with the item right under it, or None."""
+    mark = "//" if path.endswith(".rt") else "--"
+    block, outer = [], None
+    for line in read(path).split("\n"):
+        bare = line.strip()
+        if bare.startswith(mark):
+            block.append(re.sub(r" {3}.*", "", bare[len(mark) :].strip()))
+            continue
+        item = None
+        if re.match(r"(ghost |pub )?(use|mod|module|infix\w*|open)\b", bare):
+            outer = None
+        elif line.startswith(" "):
+            inner = name_in(bare) if re.match(r"(pub|fn|const) |\S+ : ", bare) else None
+            item = ".".join(x for x in (outer, inner) if x)
+        elif bare and not bare.startswith("#["):
+            item = outer = name_in(bare) or outer
+        if block and not bare.startswith("#["):
+            yield block, item
+            block = []
 
 
-def check_names(rows):
-    """The names of (kind, cell) pairs; how many."""
+def check_tree(lines):
+    """The quotations of the crates; how many."""
     count = 0
-    for kind, cell in rows:
-        for names, crate, file in CITED.findall(cell):
-            for name in re.findall(r"`([^`]+)`", names):
+    rust = " ".join(re.sub(r"\s+(//[/!]?\s*)?", " ", read(p)) for p in glob.glob(os.path.join(RUST, "**", "*.rs"), recursive=True))
+    files = [glob.glob(os.path.join(CRATES, "*", kind), recursive=True) for kind in ("specs/**/*.antt", "proofs/**/*.antt", "src/**/*.rt")]
+    for path in sorted(sum(files, [])):
+        name = os.path.relpath(path, CRATES)
+        for block, item in comments(path):
+            text = " ".join(block)
+            if text.count('"') % 2:
+                wrong.append(f"{name}: a quotation without its end, above {item}")
+            for quotation in re.findall(r'"([^"]*)"', text):
                 count += 1
-                if not stands(kind, name, crate, file):
-                    wrong.append(f"docs/PROOFS.md: no {name} ({crate}{', ' + file if file else ''}) in {kind}")
+                cited = cite(quotation, lines)
+                for clause, words in cited if cited and item else []:
+                    clause.quoted |= words
+                    if f"{name}  {item}" not in clause.items:
+                        clause.items.append(f"{name}  {item}")
+                if cited is None and not (len(quotation.split()) > 2 and any(stands(quotation, rust))):
+                    before = [l.split(f'"{quotation[:9]}')[0] for l in block if f'"{quotation[:9]}' in l]
+                    if not any(source in b for b in before for source in OTHERS):
+                        wrong.append(f'{name}: in no document: "{quotation}"')
     return count
 
 
-def check_edits():
-    """The `Breaks` lines of the wrong programs; how many programs."""
-    edits = sorted(glob.glob(os.path.join(CRATES, "*", "must-fail", "*.edit")))
-    for path in edits:
-        lines = [l for l in read(path).split("\n") if l.startswith("# Breaks: ")]
-        if len(lines) != 1:
-            wrong.append(f"{os.path.relpath(path, ROOT)}: {len(lines)} lines `# Breaks:`")
-        for quotation in re.findall(r'"([^"]*)"', " ".join(lines)):
-            if find(quotation, read(DOCUMENT), 0) is None:
-                wrong.append(f"{os.path.relpath(path, ROOT)}: not in document 01: {quotation}")
-    return len(edits)
+def check_programs(lines):
+    """The lines `# Breaks:` of the wrong programs; how many programs."""
+    paths = sorted(glob.glob(os.path.join(CRATES, "*", "must-fail", "*.edit")))
+    for path in paths:
+        name = os.path.relpath(path, CRATES)
+        quotations = re.findall(r'"([^"]*)"', " ".join(re.findall(r"^# Breaks: .*", read(path), re.M)))
+        if not quotations:
+            wrong.append(f"{name}: no quotation in a line `# Breaks:`")
+        for quotation in quotations:
+            cited = cite(quotation, lines)
+            if cited is None:
+                wrong.append(f'{name}: in no document: "{quotation}"')
+            for clause, _ in cited or []:
+                clause.programs.append(name)
+                if not clause.items:
+                    wrong.append(f"{name}: no item cites: {clause.text}")
+    return len(paths)
 
 
-COLUMNS = {
-    "sentence": (None, "specs", "proofs", "must-fail"),
-    "what": (None, "specs", "proofs", "must-fail"),
-    "law": ("proofs",),
-    "definition": ("specs",),
-}
+def print_map(every):
+    heading = None
+    for clause in every:
+        if clause.heading != heading:
+            heading = clause.heading
+            print(f"\n## {heading}")
+        print(f"\n{clause.text}")
+        if clause.why_not:
+            print(f"    owes no proof: {clause.why_not}")
+        for item in clause.items:
+            print(f"    {item}")
+        for program in clause.programs:
+            print(f"    wrong: {program}")
+    print()
 
 
 def main():
-    if not os.path.isfile(DOCUMENT):
-        print(f"NOT CHECKED: document 01 is not at {DOCUMENT} (DOCUMENT_01 names another place)")
-        return 1 if os.environ.get("CI") else 0
-    tables, names, columns, heading = [], [], None, None
-    for line in read(PROOFS).split("\n"):
-        if line.startswith("#"):
-            heading = line
-        if heading and heading.startswith("### ") and line == heading:
-            tables.append((line[4:].strip(), []))
-        if not line.startswith("|"):
-            columns = None if line.strip() else columns
-            continue
-        row = cells(line)
-        if row[0] in COLUMNS:
-            columns = COLUMNS[row[0]]
-        elif columns and not line.startswith("|---"):
-            names += [(kind, cell) for kind, cell in zip(columns, row) if kind]
-            if row[0].startswith('"'):
-                tables[-1][1].append(row)
-    tables = [(h, rows) for h, rows in tables if rows]
-    rows, clause_count = check_sentences(tables)
-    cited, edits = check_names(names), check_edits()
+    for place in (DOCUMENT_01, DOCUMENT_02, RUST):
+        if not os.path.exists(place):
+            print(f"NOT CHECKED: {place} is not there (DOCUMENT_01, DOCUMENT_02 and BASIC_TEXT_SRC name other places)")
+            return 1 if os.environ.get("CI") else 0
+    lines = documents()
+    every = [clause for _, parts in lines for clause in parts]
+    quotations, programs = check_tree(lines), check_programs(lines)
+    wrong.extend(f"NO_PROOF: no sentence begins with: {first}" for first in NO_PROOF if first not in met)
+    wrong.extend(f"{c.heading}: no item quotes `{' '.join(c.missing())}` of: {c.text}" for c in every if c.missing())
+    if sys.argv[1:] == ["map"]:
+        print_map(every)
     for line in wrong:
         print(line)
-    print(f"{clause_count} sentences and clauses in {rows} rows, {cited} names, {edits} wrong programs: {len(wrong)} wrong")
+    print(f"{len(every)} sentences and clauses, {quotations} quotations, {programs} wrong programs: {len(wrong)} wrong")
     return 1 if wrong else 0
 
 

@@ -56,7 +56,7 @@ basicTextEnd c =
 unfoldable pub isPrivateUse : ℕ → Bool
 isPrivateUse c = listed privateUse c
 
--- ---- the entries: "Entries on one character give 1 (the start class 2, then 1)"
+-- ---- the entries
 -- whether c is in a class, as a number: 1 where it is, and 0 where not
 abbrev pub flag : Bool → ℕ
 flag b = cond b 1 0
@@ -67,6 +67,7 @@ abbrev pub classNumbers : Class → List ℕ
 classNumbers (Is b) = 0 ∷ flag b ∷ []
 classNumbers (Refused n) = n ∷ []
 
+-- "Entries on one character give 1 (the start class 2, then 1)"
 abbrev pub startClass : List ℕ → ℕ → List ℕ
 startClass p c = cond (accepted p) (cond (isChar c) (0 ∷ flag (basicTextStart p c) ∷ []) (1 ∷ [])) (2 ∷ [])
 
