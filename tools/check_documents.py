@@ -7,7 +7,8 @@
 A quotation is what stands between two `"` in a comment of crates/*/specs, proofs or src, or in the line `# Breaks:` of a wrong
 program. In it ` .. ` leaves words out, and `'` stands for a `"`; what follows three blanks on a line is a note in the margin.
 The item right under the comment (a definition, theorem, function, constant, field) cites the sentences in which the quotation
-stands; a comment above no item, as the head of a file, cites nothing. It fails
+stands; a comment above no item, as the head of a file, cites nothing, nor does specs/Inner.antt, on which no entry's contract
+stands. It fails
   - on words of a sentence that no item quotes, unless NO_PROOF has the sentence or its line is marked (02);
   - on a quotation that stands word for word in neither document. One of three words or more may stand in a file of the Rust
     instead, and one behind the name of another source (OTHERS) on its line is not looked up;
@@ -173,7 +174,7 @@ def check_tree(lines):
             for quotation in re.findall(r'"([^"]*)"', text):
                 count += 1
                 cited = cite(quotation, lines)
-                for clause, words in cited if cited and item else []:
+                for clause, words in cited if cited and item and not name.endswith("specs/Inner.antt") else []:
                     clause.quoted |= words
                     if f"{name}  {item}" not in clause.items:
                         clause.items.append(f"{name}  {item}")
