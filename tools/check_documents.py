@@ -12,7 +12,8 @@ stands. It fails
   - on words of a sentence that no item quotes, unless NO_PROOF has the sentence or its line is marked (02);
   - on a quotation that stands word for word in neither document. One of three words or more may stand in a file of the Rust
     instead, and one behind the name of another source (OTHERS) on its line is not looked up;
-  - on a wrong program that quotes nothing, or a sentence that no item cites.
+  - on a wrong program that quotes nothing, or a sentence that no item cites;
+  - on a name that docs/PROOFS.md cites, as `name` (crate, File) or `function` (crate), and that does not stand there.
 Documents and Rust are in ../shared/docs, or where DOCUMENT_01, DOCUMENT_02 and BASIC_TEXT_SRC say. Without them it says NOT
 CHECKED, which is a failure where CI is set.
 """
@@ -27,6 +28,7 @@ SHARED = os.path.join(ROOT, "..", "shared", "docs")
 DOCUMENT_01 = os.environ.get("DOCUMENT_01", os.path.join(SHARED, "01-scope.md"))
 DOCUMENT_02 = os.environ.get("DOCUMENT_02", os.path.join(SHARED, "02-change-requests.md"))
 RUST = os.environ.get("BASIC_TEXT_SRC", os.path.join(SHARED, "src"))
+PROOFS = os.path.join(ROOT, "docs", "PROOFS.md")
 REQUESTS = os.path.join(ROOT, "docs", "REQUESTS.md")
 OTHERS = ("RFC 3629", "UAX #29", "UAX #44")
 
@@ -204,6 +206,19 @@ def check_programs(lines):
     return len(paths)
 
 
+def check_names():
+    """The names that docs/PROOFS.md cites; how many."""
+    count = 0
+    for names, crate, file in re.findall(r"((?:`[\w:-]+`(?:, | and )?)+)(?: [a-z ]+)? \(([a-z_]+)(?:, (\w+))?\)", read(PROOFS)):
+        places = (f"specs/{file}.antt", f"proofs/{file}.antt") if file else ("src/**/*.rt",)
+        text = "\n".join(read(p) for place in places for p in glob.glob(os.path.join(CRATES, crate, place), recursive=True))
+        for name in re.findall(r"[\w-]+(?=`)", names):
+            count += 1
+            if not re.search(rf"(?<![\w-]){re.escape(name)}(?![\w-])", text):
+                wrong.append(f"docs/PROOFS.md: no {name} in {crate}{', ' + file if file else ''}")
+    return count
+
+
 def print_map(every):
     heading = None
     for clause in every:
@@ -227,14 +242,14 @@ def main():
             return 1 if os.environ.get("CI") else 0
     lines = documents()
     every = [clause for _, parts in lines for clause in parts]
-    quotations, programs = check_tree(lines), check_programs(lines)
+    quotations, programs, names = check_tree(lines), check_programs(lines), check_names()
     wrong.extend(f"NO_PROOF: no sentence begins with: {first}" for first in NO_PROOF if first not in met)
     wrong.extend(f"{c.heading}: no item quotes `{' '.join(c.missing())}` of: {c.text}" for c in every if c.missing())
     if sys.argv[1:] == ["map"]:
         print_map(every)
     for line in wrong:
         print(line)
-    print(f"{len(every)} sentences and clauses, {quotations} quotations, {programs} wrong programs: {len(wrong)} wrong")
+    print(f"{len(every)} sentences and clauses, {quotations} quotations, {programs} wrong programs, {names} names: {len(wrong)} wrong")
     return 1 if wrong else 0
 
 
