@@ -209,12 +209,13 @@ def check_programs(lines):
 def check_names():
     """The names that docs/PROOFS.md cites; how many."""
     count = 0
-    for names, crate, file in re.findall(r"((?:`[\w:-]+`(?:, | and )?)+)(?: [a-z ]+)? \(([a-z_]+)(?:, (\w+))?\)", read(PROOFS)):
+    text = re.sub(r"\s+", " ", read(PROOFS))
+    for names, crate, file in re.findall(r"((?:`[\w:-]+`(?:, | and )?)+)(?: [a-z ]+)? \(([a-z_]+)(?:, (\w+))?\)", text):
         places = (f"specs/{file}.antt", f"proofs/{file}.antt") if file else ("src/**/*.rt",)
-        text = "\n".join(read(p) for place in places for p in glob.glob(os.path.join(CRATES, crate, place), recursive=True))
+        found = "\n".join(read(p) for place in places for p in glob.glob(os.path.join(CRATES, crate, place), recursive=True))
         for name in re.findall(r"[\w-]+(?=`)", names):
             count += 1
-            if not re.search(rf"(?<![\w-]){re.escape(name)}(?![\w-])", text):
+            if not re.search(rf"(?<![\w-]){re.escape(name)}(?![\w-])", found):
                 wrong.append(f"docs/PROOFS.md: no {name} in {crate}{', ' + file if file else ''}")
     return count
 
