@@ -162,6 +162,12 @@ def comments(path):
             block = []
 
 
+def of_others(quotation, block):
+    """Whether the line on which a quotation begins names another source before it."""
+    opening = '"' + quotation[:9]
+    return any(source in line.split(opening)[0] for line in block if opening in line for source in OTHERS)
+
+
 def check_tree(lines):
     """The quotations of the crates; how many."""
     count = 0
@@ -180,10 +186,9 @@ def check_tree(lines):
                     clause.quoted |= words
                     if f"{name}  {item}" not in clause.items:
                         clause.items.append(f"{name}  {item}")
-                if cited is None and not (len(quotation.split()) > 2 and any(stands(quotation, rust))):
-                    before = [l.split(f'"{quotation[:9]}')[0] for l in block if f'"{quotation[:9]}' in l]
-                    if not any(source in b for b in before for source in OTHERS):
-                        wrong.append(f'{name}: in no document: "{quotation}"')
+                of_rust = len(quotation.split()) > 2 and any(stands(quotation, rust))
+                if cited is None and not of_rust and not of_others(quotation, block):
+                    wrong.append(f'{name}: in no document: "{quotation}"')
     return count
 
 

@@ -75,5 +75,6 @@ isolateAnswer p cs out =
     cond (eqb (isolateRefusal p cs out) 0) (0 ∷ length (isolateOf p cs) ∷ []) (isolateRefusal p cs out ∷ [])
 
 -- the places as isolation leaves them: unchanged by a refusal
+-- "1, 2, 7, 8, 9, 10 .. change nothing."; "Places past the filled .. ones are unchanged"
 abbrev pub isolatePlaces : List ℕ → List ℕ → List ℕ → List ℕ
 isolatePlaces p cs out = cond (eqb (isolateRefusal p cs out) 0) (sets out 0 (isolateOf p cs)) out
