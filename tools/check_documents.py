@@ -77,7 +77,7 @@ class Clause:
 
 
 def clauses(heading, line):
-    """A line of a document, cut at full stops and semicolons."""
+    """A line of a document, cut at full stops and semicolons; the dots of `let .. else` are none."""
     start = 0
     for m in re.finditer(r"(?<! \.)[.;](?=\s)|$", line):
         text = line[start : m.end()].strip(" -")

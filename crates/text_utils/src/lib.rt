@@ -17,7 +17,7 @@ ghost use Rattle.page.specs.Page.{accepted};
 ghost use Rattle.text_utils.specs.Tables.{emojiModifier, spacingMark, spacingMarkExceptions, consonantPrecedingRepha, consonantPrefixed, prependedConcatenationMark};
 ghost use Rattle.text_utils.specs.Classes.{listed, starter, graphemeExtendNotCgj, spacingMarkPlus, basicTextStart, lackedByRust, basicTextEnd, isPrivateUse, classNumbers, startClass, endClass};
 
-// "Hundreds of grapheme and spacing-mark range ends in constant arrays": tables.rt. So for each property.
+// "Hundreds of grapheme and spacing-mark range ends in constant arrays": tables.rt, and a function like this for each table.
 fn is_grapheme_extend_not_cgj(c: u32) -> bool
     ensures { λ r. ⌜ r ≡ graphemeExtendNotCgj c ⌝ }
 {
