@@ -105,6 +105,7 @@ recordNumbers r =
     }
 
 -- a call's answer: the number of a refusal, and 0 where it was accepted; how many characters were written; the record after it
+-- "Scan, finish and byte write are exported on numbers and byte slices for the Rust harness."
 abbrev pub replyOf : Outcome → Reply
 replyOf s = record { refused = refusalIn (s .numbers); written = writtenIn (s .numbers); «record» = recordNumbers (s .next) }
 

@@ -156,6 +156,8 @@ fn scan(r: TextInput, page: &[u32], options: Options, chunk: &[u8], queue: &mut 
     }
 }
 
+// "'exported on numbers and byte slices for the Rust harness': extern 'C' scan, finish and byte write over numbers and byte slices,
+// called by the differential tests."
 // A chunk comes in. Page, chunk and queue are lent as bytes; the cleaned characters go to the queue's first places.
 #[no_mangle]
 pub extern "C" fn basic_text_scan(

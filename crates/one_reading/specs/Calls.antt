@@ -74,6 +74,7 @@ unfoldable pub acceptedChunks : List Call → List (List ℕ)
 acceptedChunks calls = chunksOf (acceptedFrom 0 calls)
 
 -- they joined, without a U+FEFF that begins the first of them
+-- "A text, which doesn't include a dropped U+FEFF"
 unfoldable pub textOf : List Call → List ℕ
 textOf calls = flatten (withoutBomFirst (acceptedChunks calls))
 

@@ -62,6 +62,9 @@ abbrev pub computed : Row → List (List ℕ)
 computed row = trialTold (row .trial) (row .rooms)
 
 -- ---- the cases. A scan of n characters is lent the 3 × n + 1 places that it needs, the finish 2, and the isolation 2 × n + 1.
+-- "1. empty: empty. 2. 61: 61 0A. 3. 0D | 0A in two chunks: 0A. 4. 0D 0D: 0A 0A. 5. 0C 0C 61: 20 61 0A. 6. 0C 0D: 0A. 7. 1B 5B 5B E9: E9
+-- 0A. 8. 1B 63: 0A. 9. 1B 5D 61 0A 07 62: 62 0A. 10. 200D: 34F 200D 34F 0A. 11. after 0D, the chunk FB03 gives 0A 66 66 69, four
+-- places: accepted with 4, refused with 3. 12. isolating 378 61 (378 unassigned): 34F 378 34F 61."
 unfoldable pub table : List Row
 table =
     -- 1. empty: empty

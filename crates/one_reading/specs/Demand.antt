@@ -35,6 +35,7 @@ pub record Promise (page : List ℕ) (options : Options) (calls : List Call) (qu
   -- "Demand 3 compares the queue with the image after these additions.": the queue is the cleaned text of the reading
   pub image : (xs : List Piece) → Reading options (textOf calls) xs → queue ≡ cleaned page xs
   -- "The record holds a 32-bit count of characters taken, dropped ones included.": those of the accepted chunks
+  -- so "a count that is made up" does not pass
   pub count : last .count ≡ length (flatten (acceptedChunks calls))
   -- the queue holds no ESC, and nothing that the check refuses but the excepted ones
   pub holds : all clean queue ≡ true
@@ -43,6 +44,8 @@ pub record Promise (page : List ℕ) (options : Options) (calls : List Call) (qu
   pub passes : NoneExcepted queue → PassesIn Plain page queue (isolateOf page queue)
 
 -- for every accepted page, options, list of calls and what a caller sees of it, from a fresh record
+-- "Demand 3 is one statement about the whole list of calls, and not a statement for each call." "Once scan, finish, plain write and
+-- close run, demand 3 is owed, all of it, in that delivery."
 abbrev pub Demand3 : Type 0
 Demand3 =
     (page : List ℕ) → accepted page ≡ true → (options : Options) →

@@ -43,7 +43,7 @@ abbrev pub noBracket : List ℕ → Bool
 noBracket [] = true
 noBracket (c ∷ q) = not (eqb c 0x5B)
 
--- "Escape: 1B, then one of:
+-- "Escape, image empty: 1B, then one of:
 --     `[` `[` and at most one character up to 7F;                                                      linux, linuxChar
 --     or `[` not followed by `[`, any number of 20..3F, then one of 40..7E or 18 if it stands there;   control
 --     or `]` and all up to the first of 07, 18 and 1B, with it if it is 07 or 18,                      string
@@ -89,18 +89,21 @@ abbrev pub EachLongest : Options → List Piece → Type 0
 EachLongest o [] = Unit {0}
 EachLongest o (x ∷ xs) = LongestPiece o x (join xs) × EachLongest o xs
 
+-- "A text, which doesn't include a dropped U+FEFF, is read from the left, longest piece first:"
 pub record Reading (o : Options) (text : List ℕ) (xs : List Piece) : Type 0 where
   pub joined : join xs ≡ text
   pub longest : EachLongest o xs
 
 -- ---- images
 -- a page run's: "Image empty before 0D or 0A, else 20, also at the end."
+-- so "giving a page run its space before 0D" does not pass
 unfoldable pub pageImage : List ℕ → List ℕ
 pageImage [] = 0x20 ∷ []
 pageImage (d ∷ rest) = cond (newlineChar d) [] (0x20 ∷ [])
 
 -- a piece's, by its kind, its characters and what follows: a line end's is 0A, an escape's empty, any other character's "its
 -- replacement"
+-- "Image 0A." "Escape, image empty" "Any other character: its replacement."
 unfoldable pub pieceImage : Kind → List ℕ → List ℕ → List ℕ
 pieceImage lineEnd w rest = 0x0A ∷ []
 pieceImage pageRun w rest = pageImage rest
@@ -120,6 +123,7 @@ startMark p [] = []
 startMark p (x ∷ w) = cond (basicTextStart p x) [] (0x34F ∷ [])
 
 -- "if the last image character is no end, 34F follows"
+-- "The end rules follow; for a whole text finished once, as end of file, they come to this:"
 unfoldable pub endMark : List ℕ → List ℕ
 endMark [] = []
 endMark (x ∷ []) = cond (basicTextEnd x) [] (0x34F ∷ [])
@@ -138,5 +142,6 @@ lastNewline (x ∷ []) = cond (isLine (x .kind)) [] (0x0A ∷ [])
 lastNewline (x ∷ y ∷ xs) = lastNewline (y ∷ xs)
 
 -- the cleaned text of a reading, by the page p: its image "after these additions"
+-- "These must not pass: a scan that passes the chunk through uncleaned (demand 3)"
 unfoldable pub cleaned : List ℕ → List Piece → List ℕ
 cleaned p xs = startMark p (image xs) ++ (image xs ++ (endMark (image xs) ++ lastNewline xs))

@@ -20,6 +20,7 @@ use Rattle.text_input.specs.declared.step.Lead.the-variants.{Nothing, Ch
 use Rattle.text_input.specs.Step.{scanStepOf, outChars, leadChars, lastOf}
 
 -- "A fresh record is one as first made"; its last character is an end, so that a finish adds no 34F to an empty text
+-- ".. with no call on it yet."
 abbrev pub fresh : TextInput
 fresh = record { state = Ground true; «expect_starter» = true; «at_start» = true; last = 0x0A; count = 0 }
 
@@ -35,6 +36,7 @@ ends p o r [] = r
 ends p o r (c ∷ cs) = ends p o (scanStepOf p o r c .next) cs
 
 -- ---- a call's answer by document 01's numbers, the record after it, and the lent places as it returns
+-- "`VecDeque` and `String`: lent slices and counts."
 pub record Outcome : Type 0 where
   pub numbers : List ℕ
   pub next : TextInput
@@ -45,10 +47,14 @@ abbrev pub outcome : Scanned → List ℕ → Outcome
 outcome r places = record { numbers = writtenNumbers (r .answer); next = r .next; places = places }
 
 -- refused by a number: record and places as they were
+-- "1, 2, 7, 8, 9, 10 .. change nothing."
 abbrev pub refused : TextInput → ℕ → List ℕ → Outcome
 refused r n queue = record { numbers = n ∷ []; next = r; places = queue }
 
 -- accepted: `out` is written from the first place on, and its length is answered
+-- "Scan and finish write from the first place of the slice lent to that call, all of whose places are free, and return the number
+-- written"
+-- "Places past the filled .. ones are unchanged"
 abbrev pub written : TextInput → List ℕ → List ℕ → Outcome
 written next out queue = record { numbers = 0 ∷ length out ∷ []; next = next; places = sets queue 0 out }
 
@@ -60,6 +66,7 @@ placesForChunk (suc n) = 3 * suc n + 1
 
 -- "Order: 2, 1, 10, 8." The number of the refusal, and 0 for none, by the record's count, whether the page is accepted, whether
 -- every value is a character, how many these are, and the free places. "10 the count would pass 4,294,967,295."
+-- "8 too few free places."; so "a scan saying 8 with places free (demand 2, the refusal conditions)" does not pass
 unfoldable pub refusalOf : ℕ → Bool → Bool → ℕ → ℕ → ℕ
 refusalOf count page chars n room =
     cond (not page) 2 (cond (not chars) 1 (cond (ltb 4294967295 (count + n)) 10 (cond (ltb room (placesForChunk n)) 8 0)))
@@ -73,11 +80,13 @@ leadingBom [] = 0
 leadingBom (c ∷ cs) = cond (eqb c 0xFEFF) 1 0
 
 -- "U+FEFF is dropped only as the first character of the first call."
+-- "Plausible and wrong: dropping any leading FEFF of a later chunk"
 abbrev pub skipped : TextInput → List ℕ → ℕ
 skipped r chunk = cond (r .«at_start») (leadingBom chunk) 0
 
 -- the record of an accepted call on n characters before the first of them: the chance is spent, also by an empty chunk, and all
 -- n are counted, "dropped ones included"
+-- "An empty first call spends that chance."
 abbrev pub opened : TextInput → ℕ → TextInput
 opened r n =
     record { state = r .state; «expect_starter» = r .«expect_starter»; «at_start» = false; last = r .last; count = r .count + n }
@@ -89,6 +98,7 @@ scanChars p o r chunk = outs p o (opened r (length chunk)) (drop (skipped r chun
 abbrev pub scanNext : List ℕ → Options → TextInput → List ℕ → TextInput
 scanNext p o r chunk = ends p o (opened r (length chunk)) (drop (skipped r chunk) chunk)
 
+-- "(scan, finish and filling use the queue unisolated, isolation is an entry of its own)"
 unfoldable pub scanOf : TextInput → List ℕ → Options → List ℕ → List ℕ → Outcome
 scanOf r p o chunk queue =
     cond (eqb (scanRefusal r p chunk (length queue)) 0) (written (scanNext p o r chunk) (scanChars p o r chunk) queue)
@@ -144,6 +154,7 @@ finishNext r eof =
     }
 
 -- "Free places needed: 2."
+-- "The reference is the status block of `read_with_status`."
 unfoldable pub finishOf : TextInput → Bool → List ℕ → Outcome
 finishOf r eof queue =
     cond (ltb (length queue) 2) (refused r 8 queue) (written (finishNext r eof) (finishChars r eof) queue)

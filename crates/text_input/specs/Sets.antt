@@ -14,6 +14,7 @@ unfoldable pub final : ℕ → Bool
 final c = (leb 0x40 c && leb c 0x7E) || eqb c 0x18
 
 -- "07 or 18"
+-- so "letting a newline end an OSC (`ESC ]`) string" does not pass
 unfoldable pub stringEnd : ℕ → Bool
 stringEnd c = eqb c 0x07 || eqb c 0x18
 
@@ -26,5 +27,6 @@ unfoldable pub newlineChar : ℕ → Bool
 newlineChar c = eqb c 0x0A || eqb c 0x0D
 
 -- "with its option 85, or 2028 and 2029"
+-- "Options are `nel_compatibility` and `lsps_compatibility`."
 unfoldable pub optionalLine : Options → ℕ → Bool
 optionalLine o c = (eqb c 0x85 && o .«nel_compatibility») || ((eqb c 0x2028 || eqb c 0x2029) && o .«lsps_compatibility»)

@@ -122,5 +122,6 @@ leftOf p o r c (After a) = groundOf p o r c (Char a) false
 leftOf p o r c Dropped = groundOf p o r c Nothing false
 
 -- the step on c by the page p and the options o
+-- "The reference is `process_raw_string`."
 unfoldable pub scanStepOf : List ℕ → Options → TextInput → ℕ → Step
 scanStepOf p o r c = leftOf p o r c (leaveOf (r .state) c)

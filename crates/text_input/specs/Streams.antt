@@ -18,6 +18,7 @@ pub record Section : Type 0 where
   pub eof : Bool
 
 -- "the queue is what successive calls wrote, joined": scans of these chunks, each on the record that the one before returned
+-- so "one that cleans the first chunk and drops later ones (demand 3)" does not pass
 unfoldable pub scansChars : List ℕ → Options → TextInput → List (List ℕ) → List ℕ
 scansChars p o r [] = []
 scansChars p o r (c ∷ cs) = scanChars p o r c ++ scansChars p o (scanNext p o r c) cs

@@ -139,6 +139,7 @@ fn leave_csi(c: u32) -> Left
 }
 
 // In each state.
+// "Guarded matches: matches on a local, then ifs."
 fn leave(state: State, c: u32) -> Left
     ensures { λ r. ⌜ r ≡ leaveOf state c ⌝ }
 {

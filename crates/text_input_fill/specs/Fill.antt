@@ -12,6 +12,7 @@ use Rattle.text_input_fill.specs.declared.Filled.{Filled}
 use Rattle.text_input_fill.specs.declared.Filled.the-variants.{Counts, Refused}
 
 -- the characters that are encoded, with so many bytes free
+-- "Filling bytes: queue characters are encoded while at least 4 bytes are free"
 abbrev pub takenChars : ℕ → List ℕ → List ℕ
 takenChars free [] = []
 takenChars free (c ∷ cs) = cond (ltb free 4) [] (c ∷ takenChars (free - length (encodeOf c)) cs)
@@ -22,6 +23,7 @@ zeroed [] = []
 zeroed (b ∷ bs) = cond (continuation b) (0 ∷ zeroed bs) (b ∷ bs)
 
 -- an answer by document 01's numbers: 0, the characters taken and the bytes filled; or the refusal's number
+-- "The characters taken and the bytes filled are both returned."
 abbrev pub filledNumbers : Filled → List ℕ
 filledNumbers (Counts chars bytes) = 0 ∷ chars ∷ bytes ∷ []
 filledNumbers (Refused n) = n ∷ []
@@ -36,6 +38,7 @@ abbrev pub fillOutcome : Filled → List ℕ → FillOutcome
 fillOutcome r bytes = record { numbers = filledNumbers r; bytes = bytes }
 
 -- refused by a number: the bytes as they were
+-- "1, 2, 7, 8, 9, 10 .. change nothing."
 abbrev pub fillRefused : ℕ → List ℕ → FillOutcome
 fillRefused n buf = record { numbers = n ∷ []; bytes = buf }
 
@@ -44,6 +47,8 @@ abbrev pub filledBytes : List ℕ → List ℕ → List ℕ
 filledBytes qs buf = encodeAll (takenChars (length buf) qs)
 
 -- the queue qs into the buffer buf: "7 a byte buffer under 136", then 1
+-- "then continuation bytes (80..BF) from there on are zeroed"; else the bytes past the filled ones "are unchanged, but for the zeroed
+-- bytes of filling." "Order: 7, 1."
 unfoldable pub fillOf : List ℕ → List ℕ → FillOutcome
 fillOf qs buf =
     cond (ltb (length buf) 136) (fillRefused 7 buf)

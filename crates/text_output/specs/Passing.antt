@@ -12,6 +12,7 @@ use Rattle.text_output.specs.Write.{parts, placesForWrite, writeStrOf}
 use Rattle.text_output.specs.Close.{closeOf}
 
 -- of the characters that go out, what the one write returned and left, and what the close returned
+-- "The number handed out and the characters in those places are the queue isolated as one run with the page."
 pub record Passes (out : List ℕ) (wrote : Outcome) (closed : Given) : Type 0 where
   -- "The number handed out": how many these are
   pub number : wrote .given .numbers ≡ 0 ∷ length out ∷ []

@@ -46,6 +46,7 @@ holding w state c =
     }
 
 -- refused by 4: the reason's number and its values
+-- "4 a character refused by `check_basic_text_char` or by `state_machine_char`, with the reason"
 abbrev pub unwritable : TextOutput → List ℕ → Stepped
 unwritable w reason = stops [] w (4 ∷ reason)
 

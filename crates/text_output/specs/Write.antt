@@ -66,6 +66,7 @@ runIn Color p w chars = runOf p w chars
 -- ---- the handing out: `write_buffer`
 -- "5 the buffer to hand out, not empty, begins with no start while one is expected." It spends the expectation, and all stays kept.
 -- "Success hands out the first k characters and sets kept to 0." "an empty write spends the expectation of a start"
+-- "Corners: an empty write spends the expectation of a start."; "a writer always refusing with 4" does not pass
 abbrev pub handOut : List ℕ → TextOutput → ℕ → List ℕ → Given
 handOut p w k places =
     cond (w .«expect_starter» && (ltb 0 k && not (basicTextStart p (getD places 0 0))))
@@ -74,6 +75,7 @@ handOut p w k places =
 
 -- how a write ends: what its steps added stands in the places behind the kept ones. "After 4 or 6 the characters before the refused
 -- one .. stay kept"; "4, 6 .. leave the expectation as it was"
+-- "and after 5 all that was to be handed out, stay kept and go out with the next success."
 abbrev pub endedBy : List ℕ → Stepped → List ℕ → Outcome
 endedBy p (goes xs w) places =
     record { given = handOut p w (w .kept + length xs) (sets places (w .kept) xs); places = sets places (w .kept) xs }
@@ -118,6 +120,7 @@ abbrev pub taking : List ℕ → Outcome → BytesOutcome
 taking bytes o = record { used = usedBy (o .given .numbers) bytes; outcome = o }
 
 -- "Byte writes take the longest valid prefix". 3 comes after 9 and 2, and leaves expectation and kept characters.
+-- "The references are `write`, `write_str`, `flush`, `close`, `abandon`."
 unfoldable pub writeOf : TextOutput → List ℕ → List ℕ → List ℕ → BytesOutcome
 writeOf w p bytes places =
     cond (sound w && (accepted p && beginsNone bytes))

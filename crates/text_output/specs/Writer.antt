@@ -26,6 +26,7 @@ abbrev pub escapeLimit : ℕ
 escapeLimit = 64
 
 -- as first made, in a mode
+-- "Each writer mode is opened by a constructor of its own: plain, CRLF, BOM .. color."
 abbrev pub fresh : Mode → TextOutput
 fresh mode =
     record {
@@ -48,10 +49,12 @@ heldIn Esc n = eqb n 1
 heldIn Csi n = leb 2 n
 
 -- what 9 does not refuse: "a writer record claiming over 64 held, or a held count that its state can't have"
+-- "9 a writer record claiming over 64 held"
 abbrev pub sound : TextOutput → Bool
 sound w = leb (w .held) escapeLimit && heldIn (w .state) (w .held)
 
 -- outside an escape, where nothing is held
+-- "Held counts the characters of an escape in progress, else 0."
 abbrev pub onGround : TextOutput → Ground → TextOutput
 onGround w ground =
     record {
@@ -81,6 +84,7 @@ keeping w expect kept =
 
 -- ---- what a call answers, by this paper's numbers
 -- 0 and how many characters are handed out; or the refusal's number, for 4 the reason's number and its values too
+-- "a definition lists this paper's number and values for each case"
 abbrev pub wroteNumbers : Wrote → List ℕ
 wroteNumbers (HandedOut k) = 0 ∷ k ∷ []
 wroteNumbers (Refused n) = n ∷ []

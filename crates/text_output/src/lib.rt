@@ -106,6 +106,7 @@ pub struct Answered {
 
 impl TextOutput {
     // The most characters that an escape can hold: 64.
+    // "limits 64 and 136 as associated constants."
     pub const ESCAPE_SEQUENCE_SIZE: usize = 64;
 
     // The least size of a byte buffer to fill, the scanner's: 136.
@@ -126,6 +127,7 @@ impl TextOutput {
     }
 
     // A plain writer.
+    // "'Each writer mode is opened by a constructor of its own': Associated functions of the writer type for plain, CRLF, BOM and color"
     pub fn new() -> Self
         ensures { λ r. ⌜ r ≡ fresh Plain ⌝ }
     {

@@ -11,6 +11,8 @@ ghost use Rattle.text_output.specs.Close.{flushOf, closeOf, abandonOf};
 ghost use Rattle.text_output_lent.specs.Lent.{leaves};
 
 // Flushes the writer. Total: answers and leaves what `TextOutput::flush` does, on any record.
+// "'flush, close and abandon also exist over a lent record': Thin functions taking &mut writer record, calling the covered by-value
+// methods and storing the result."
 pub fn flush(w: &mut TextOutput) -> Answer
     ensures { λ r. ⌜ leaves r (now (w .exit)) ≡ flushOf (now (w .entry)) ⌝ }
 {
