@@ -189,7 +189,11 @@ pub struct Filled {
 pub fn fill(buffer: &mut [u8], queue: &[u32]) -> Result<Filled, u32> {
     // "7 a byte buffer under 136", which the original finds before it reads the queue.
     let mut copy = buffer.to_vec();
-    TextInput::read_with_status(&mut reader(Status::Active), &mut copy).map_err(|_| 7u32)?;
+    if let Err(error) = TextInput::read_with_status(&mut reader(Status::Active), &mut copy) {
+        let message = error.to_string();
+        assert!(message.ends_with("at least NORMALIZATION_BUFFER_SIZE bytes are required"), "no refusal: {message}");
+        return Err(7);
+    }
     let queue = characters(queue).ok_or(1u32)?;
     let length = queue.len();
     let mut reader = reader(Status::Active);

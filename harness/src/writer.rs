@@ -233,16 +233,10 @@ impl Writer {
 
     fn finish(&mut self, call: impl FnOnce(&mut TextWriter<Sink>) -> io::Result<()>) -> Result<(), Refusal> {
         self.claim_refused()?;
-        // "11 flush or close after a non-end. 12 close after another character that is no newline. 13 flush or close
-        // inside an escape."
-        let number = match self.state() {
-            1 => 11,
-            2 => 12,
-            _ => 13,
-        };
         self.writer.inner.abandoned = false;
         let answer = call(&mut self.writer);
-        answer.map_err(|_| Refusal { number, reason: None, abandon: self.writer.inner.abandoned })
+        let abandon = self.writer.inner.abandoned;
+        answer.map_err(|error| Refusal { number: by_message(&error), reason: None, abandon })
     }
 
     /// "abandon refuses nothing", whatever the record claims.
@@ -332,7 +326,23 @@ fn write_refusal(error: &io::Error) -> (u32, Option<Reason>) {
     match inner.and_then(|inner| inner.downcast_ref::<BasicTextError>()) {
         Some(BasicTextError::ColorEscapeSequence) => (6, None),
         Some(error) => (4, Some(Reason::from(error))),
-        None => (5, None),
+        None => (by_message(error), None),
+    }
+}
+
+/// The number of an error that has no type of its own: the original tells it by its message.
+fn by_message(error: &io::Error) -> u32 {
+    match error.to_string().as_str() {
+        // "5 the buffer to hand out, not empty, begins with no start while one is expected."
+        "write data must begin with a Unicode Normalization Form starter" => 5,
+        // "11 flush or close after a non-end."
+        "strict text stream flushed after a ZWJ or Prepend" | "strict text stream ended after a ZWJ or Prepend" => 11,
+        // "12 close after another character that is no newline."
+        "strict text stream must end with newline" => 12,
+        // "13 flush or close inside an escape."
+        "strict text stream flushed while an escape sequence was in progress"
+        | "incomplete escape sequence at end of strict text stream" => 13,
+        message => panic!("no refusal has this message: {message}"),
     }
 }
 
