@@ -8,7 +8,7 @@ use crate::page::Page;
 use crate::properties;
 use crate::text_input::scanner::{fill, Scanner};
 use crate::text_output::writer::{Mode, Refusal, Writer, MOST_PLACES};
-use crate::words::{bytes, bytes_list, characters_list, number, numbers, pairs, Fault, MOST_BYTES};
+use crate::words::{bytes, bytes_list, characters_list, is_operation, number, numbers, pairs, Fault, MOST_BYTES};
 
 /// An answer line, or the word after `?`.
 type Answer = Result<String, Fault>;
@@ -36,11 +36,7 @@ impl Oracle {
 
     /// The answer to a line; none to an empty line or a comment.
     pub fn answer(&mut self, line: &str) -> Option<String> {
-        if line.is_empty() || line.starts_with('#') {
-            return None;
-        }
-        let answer = self.operation(line);
-        Some(answer.unwrap_or_else(|fault| format!("? {fault}")))
+        is_operation(line).then(|| self.operation(line).unwrap_or_else(|fault| format!("? {fault}")))
     }
 
     fn operation(&mut self, line: &str) -> Answer {

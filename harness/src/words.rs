@@ -7,6 +7,11 @@ pub type Fault = &'static str;
 pub const MOST_BYTES: usize = 98_304;
 pub const MOST_NUMBERS: usize = 9_000;
 
+/// "Empty lines and lines that begin with `#` get no answer."
+pub fn is_operation(line: &str) -> bool {
+    !line.is_empty() && !line.starts_with('#')
+}
+
 /// A number: hexadecimal, lower case, without a prefix, at most ffffffff.
 pub fn number(word: &str) -> Result<u32, Fault> {
     let is_digit = |b: u8| matches!(b, b'0'..=b'9' | b'a'..=b'f');

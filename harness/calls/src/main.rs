@@ -2,7 +2,8 @@
 //!
 //!     calls short|long SEED COUNT
 //!
-//! COUNT is that of the random calls. Prints how many calls each part compared, or the first difference.
+//! COUNT is that of the random calls. Prints how many calls each part compared, and how many were refused by each number, or the
+//! first difference. It ends with 1 at a difference, at a part that compared no call, and where a refusal was not met.
 
 #![deny(unsafe_code)]
 
@@ -66,42 +67,44 @@ fn compare(extent: &Extent, seed: u64, count: u64) -> Result<(), String> {
 }
 
 fn compare_scanner(sides: &mut Sides, extent: &Extent, seed: u64, count: u64) -> Result<(), String> {
-    let say = |sides: &mut Sides, part: &str| say(&mut sides.answers, &[2, 1, 10, 8], part);
+    let mut told = Told::new(&[2, 1, 10, 8]);
     texts::every_text(sides, extent.texts, extent.pushed)?;
-    say(sides, &format!("every text of up to {} characters, with pushes {}", extent.texts, extent.pushed));
+    let part = format!("every text of up to {} characters, with pushes {}", extent.texts, extent.pushed);
+    told.part(&mut sides.answers, &part)?;
     texts::every_state(sides, &extent.alone)?;
-    say(sides, &format!("{} characters in every state", extent.alone.len()));
+    told.part(&mut sides.answers, &format!("{} characters in every state", extent.alone.len()))?;
     forged::every_record(sides)?;
-    say(sides, "forged records");
+    told.part(&mut sides.answers, "forged records")?;
     lists::named_pages(sides)?;
-    say(sides, "pages by name");
+    told.part(&mut sides.answers, "pages by name")?;
     lists::random_lists(sides, seed, count)?;
-    say(sides, "random lists");
+    told.part(&mut sides.answers, "random lists")?;
     stretches::every_place(sides, Step { step: extent.step, seed })?;
-    say(sides, &of_stretches("stretches, something awkward at every place", extent.step));
+    told.part(&mut sides.answers, &of_stretches("stretches, something awkward at every place", extent.step))?;
     stretches::long_chunks(sides, seed, extent.chunks)?;
-    say(sides, "chunks of thousands");
-    Ok(())
+    told.part(&mut sides.answers, "chunks of thousands")?;
+    told.all_met()
 }
 
 fn compare_writer(sides: &mut WriterSides, extent: &Extent, seed: u64, count: u64) -> Result<(), String> {
-    let say = |sides: &mut WriterSides, part: &str| say(&mut sides.answers, &[9, 2, 3, 8, 4, 6, 5], part);
+    let mut told = Told::new(&[9, 2, 3, 8, 4, 6, 5]);
     writes::every_string(sides, extent.strings)?;
     let longest = if extent.strings { 3 } else { 2 };
-    say(sides, &format!("writes, every string of up to {longest} bytes, and the bounds of UTF-8"));
+    let part = format!("writes, every string of up to {longest} bytes, and the bounds of UTF-8");
+    told.part(&mut sides.answers, &part)?;
     writes::every_state(sides, &extent.alone)?;
-    say(sides, &format!("writes, {} characters in every state", extent.alone.len()));
+    told.part(&mut sides.answers, &format!("writes, {} characters in every state", extent.alone.len()))?;
     forged_writers::every_record(sides)?;
-    say(sides, "writes, forged records");
+    told.part(&mut sides.answers, "writes, forged records")?;
     writes::named_pages(sides)?;
-    say(sides, "writes, pages by name");
+    told.part(&mut sides.answers, "writes, pages by name")?;
     writes::random_lists(sides, seed, count)?;
-    say(sides, "writes, random lists");
+    told.part(&mut sides.answers, "writes, random lists")?;
     stretches::every_place_written(sides, Step { step: extent.step, seed })?;
-    say(sides, &of_stretches("writes, stretches, something awkward at every place", extent.step));
+    told.part(&mut sides.answers, &of_stretches("writes, stretches, something awkward at every place", extent.step))?;
     stretches::long_chunks_written(sides, seed, extent.chunks)?;
-    say(sides, "writes, chunks of thousands");
-    Ok(())
+    told.part(&mut sides.answers, "writes, chunks of thousands")?;
+    told.all_met()
 }
 
 fn of_stretches(part: &str, step: usize) -> String {
@@ -112,9 +115,39 @@ fn of_stretches(part: &str, step: usize) -> String {
     }
 }
 
-/// Says what a part compared, refusals in the order of their tests, and begins the count anew.
-fn say(answers: &mut [u64; NUMBERS], order: &[usize], part: &str) {
-    let refused: Vec<String> = order.iter().map(|number| format!("{number}: {}", answers[*number])).collect();
-    println!("{part}: {} calls compared, refused by {}", answers.iter().sum::<u64>(), refused.join(", "));
-    *answers = [0; NUMBERS];
+/// What was told of the parts so far.
+struct Told {
+    /// The refusals that the parts together must meet, in the order of their tests.
+    refusals: &'static [usize],
+    met: [u64; NUMBERS],
+}
+
+impl Told {
+    fn new(refusals: &'static [usize]) -> Self {
+        Self { refusals, met: [0; NUMBERS] }
+    }
+
+    /// Says what a part compared, and begins the count anew. A part that compared no call is a failure.
+    fn part(&mut self, answers: &mut [u64; NUMBERS], part: &str) -> Result<(), String> {
+        let answers = std::mem::replace(answers, [0; NUMBERS]);
+        let calls: u64 = answers.iter().sum();
+        if calls == 0 {
+            return Err(format!("NOTHING COMPARED: {part}"));
+        }
+        let refused: Vec<String> =
+            self.refusals.iter().map(|number| format!("{number}: {}", answers[*number])).collect();
+        println!("{part}: {calls} calls compared, refused by {}", refused.join(", "));
+        for (met, count) in self.met.iter_mut().zip(answers) {
+            *met += count;
+        }
+        Ok(())
+    }
+
+    /// A refusal that no part met is a failure.
+    fn all_met(&self) -> Result<(), String> {
+        match self.refusals.iter().find(|number| self.met[**number] == 0) {
+            Some(number) => Err(format!("NOTHING COMPARED: no call is refused by {number}")),
+            None => Ok(()),
+        }
+    }
 }

@@ -1,28 +1,40 @@
-//! Compares two files of answers to one script: `answers SCRIPT ORACLE OURS`. Prints how many answers of each kind were
-//! compared, or the first difference.
+//! Compares two files of answers to a script of one kind: `answers KIND SCRIPT ORACLE OURS`. Prints how many answers were
+//! compared, those by `?` apart, to which operations, and how often each refusal was met. It ends with 1, and says why, at the
+//! first difference, at an answer that is missing on either side or on both, at an answer too many, at a script without
+//! operations, and where an operation or a refusal that the kind must have was not met.
 
+use harness::scripts::KINDS;
+use harness::words::is_operation;
 use std::collections::BTreeMap;
+use std::fmt;
 use std::fs::File;
 use std::io::{self, BufRead, BufReader};
 use std::process::ExitCode;
 
 fn main() -> io::Result<ExitCode> {
-    let files: Vec<String> = std::env::args().skip(1).collect();
-    let [script, oracle, ours] = files.as_slice() else {
-        eprintln!("usage: answers SCRIPT ORACLE OURS");
-        return Ok(ExitCode::from(2));
+    let words: Vec<String> = std::env::args().skip(1).collect();
+    let [kind, script, oracle, ours] = words.as_slice() else {
+        return Ok(usage());
     };
-    match compare(lines(script)?, lines(oracle)?, lines(ours)?)? {
-        Ok(counts) => {
-            let words: Vec<String> = counts.iter().map(|(kind, count)| format!("{kind} {count}")).collect();
-            println!("{}", words.join(", "));
-            Ok(ExitCode::SUCCESS)
+    let Some((_, operations, refusals)) = KINDS.iter().find(|(name, ..)| name == kind) else {
+        return Ok(usage());
+    };
+    let met = compare(lines(script)?, lines(oracle)?, lines(ours)?)?;
+    Ok(match met.and_then(|met| met.with_all(operations, refusals)) {
+        Ok(met) => {
+            println!("{met}");
+            ExitCode::SUCCESS
         }
-        Err(difference) => {
-            println!("{difference}");
-            Ok(ExitCode::FAILURE)
+        Err(fault) => {
+            println!("{fault}");
+            ExitCode::FAILURE
         }
-    }
+    })
+}
+
+fn usage() -> ExitCode {
+    eprintln!("usage: answers KIND SCRIPT ORACLE OURS");
+    ExitCode::from(2)
 }
 
 /// The lines of a file, read one by one: a script of every character has millions.
@@ -32,43 +44,80 @@ fn lines(path: &str) -> io::Result<impl Iterator<Item = io::Result<String>>> {
     Ok(lines.map(|line| line.map(|bytes| String::from_utf8_lossy(&bytes).into_owned())))
 }
 
-/// The number of answers of each kind, or the first difference.
-type Outcome = Result<BTreeMap<String, usize>, String>;
+/// What the answers had.
+#[derive(Default)]
+struct Met {
+    /// The answers that were compared, by their operations.
+    operations: BTreeMap<String, usize>,
+    refusals: BTreeMap<u32, usize>,
+    /// The answers by `?`, of which nothing is compared.
+    faults: usize,
+}
+
+/// What was met, or the first fault.
+type Outcome = Result<Met, String>;
 
 fn compare(
     script: impl Iterator<Item = io::Result<String>>,
     mut oracle: impl Iterator<Item = io::Result<String>>,
     mut ours: impl Iterator<Item = io::Result<String>>,
 ) -> io::Result<Outcome> {
-    let mut counts = BTreeMap::new();
+    let mut met = Met::default();
     for (at, operation) in script.enumerate() {
         let operation = operation?;
         if !is_operation(&operation) {
             continue;
         }
-        let (theirs, ours) = (oracle.next().transpose()?, ours.next().transpose()?);
-        if theirs.as_deref().map(compared) != ours.as_deref().map(compared) {
-            return Ok(Err(difference(at + 1, &operation, theirs.as_deref(), ours.as_deref())));
+        match (oracle.next().transpose()?, ours.next().transpose()?) {
+            (Some(theirs), Some(ours)) if compared(&theirs) == compared(&ours) => {
+                met.learn(&operation, compared(&ours))
+            }
+            (theirs, ours) => return Ok(Err(difference(at + 1, &operation, theirs.as_deref(), ours.as_deref()))),
         }
-        count(&mut counts, kind(&operation));
     }
     let surplus = oracle.next().or(ours.next()).transpose()?;
-    Ok(surplus.map_or(Ok(counts), |line| Err(format!("an answer to no operation: {}", cut(&line)))))
+    Ok(surplus.map_or(Ok(met), |line| Err(format!("an answer to no operation: {}", cut(&line)))))
 }
 
-/// One more of a kind.
-fn count(counts: &mut BTreeMap<String, usize>, kind: &str) {
-    match counts.get_mut(kind) {
-        Some(count) => *count += 1,
-        None => {
-            counts.insert(kind.to_owned(), 1);
+impl Met {
+    fn learn(&mut self, operation: &str, answer: &str) {
+        if answer == "?" {
+            self.faults += 1;
+            return;
         }
+        let name = if answer == "page 0" { "P wrong" } else { name(operation) };
+        match self.operations.get_mut(name) {
+            Some(count) => *count += 1,
+            None => drop(self.operations.insert(name.to_owned(), 1)),
+        }
+        if let Some(number) = refusal(answer) {
+            *self.refusals.entry(number).or_default() += 1;
+        }
+    }
+
+    /// Itself, if it has all of these.
+    fn with_all(self, operations: &str, refusals: &[u32]) -> Outcome {
+        if let Some(name) = operations.split(", ").find(|name| !self.operations.contains_key(*name)) {
+            return Err(format!("NOTHING COMPARED: no answer to {name}"));
+        }
+        if let Some(number) = refusals.iter().find(|number| !self.refusals.contains_key(number)) {
+            return Err(format!("NOTHING COMPARED: no answer is refused by {number}"));
+        }
+        Ok(self)
     }
 }
 
-/// "Empty lines and lines that begin with `#` get no answer."
-fn is_operation(line: &str) -> bool {
-    !line.is_empty() && !line.starts_with('#')
+impl fmt::Display for Met {
+    fn fmt(&self, f: &mut fmt::Formatter<'_>) -> fmt::Result {
+        let operations: Vec<String> = self.operations.iter().map(|(name, count)| format!("{name} {count}")).collect();
+        let refusals: Vec<String> = self.refusals.iter().map(|(number, count)| format!("{number}: {count}")).collect();
+        let compared: usize = self.operations.values().sum();
+        write!(f, "{compared} answers compared, and {} by ?\n  {}", self.faults, operations.join(", "))?;
+        if refusals.is_empty() {
+            return Ok(());
+        }
+        write!(f, "\n  refused by {}", refusals.join(", "))
+    }
 }
 
 /// The part of an answer that is compared: all before `#`; of a line that begins with `?` that sign alone.
@@ -79,10 +128,15 @@ fn compared(answer: &str) -> &str {
     answer.split('#').next().unwrap_or_default().trim_end()
 }
 
-/// The words of an operation that say its kind.
-fn kind(operation: &str) -> &str {
+/// The words of an operation that name it.
+fn name(operation: &str) -> &str {
     let words = if operation.starts_with(['P', 'F']) { 1 } else { 2 };
     operation.match_indices(' ').nth(words - 1).map_or(operation, |(end, _)| &operation[..end])
+}
+
+/// The number of a refusal.
+fn refusal(answer: &str) -> Option<u32> {
+    answer.strip_prefix("no ")?.split(' ').next()?.parse().ok()
 }
 
 fn difference(line: usize, operation: &str, theirs: Option<&str>, ours: Option<&str>) -> String {

@@ -1,9 +1,10 @@
 //! Holds answers to a script of the kind `demand` to demand 3: `promise SCRIPT ANSWERS`. Where the queue holds none of the
 //! excepted characters, the queue is the same for both cuts of the text, its one write hands out what isolation of the
-//! queue as one run gives, and the close succeeds. Prints how many queues passed, or the first that does not.
+//! queue as one run gives, and the close succeeds. Prints how many queues passed, or the first that does not. A missing answer
+//! is a failure, and so is a script that has no queue to pass, or none with an excepted character.
 
 use harness::leaves::is_excepted;
-use harness::words::listed;
+use harness::words::{is_operation, listed};
 use std::fs::read_to_string;
 use std::io;
 use std::process::ExitCode;
@@ -16,14 +17,17 @@ fn main() -> io::Result<ExitCode> {
     };
     let (script, answers) = (read_to_string(script)?, read_to_string(answers)?);
     let mut seen = Seen::default();
-    for (operation, answer) in script.lines().zip(answers.lines()) {
-        if let Err(broken) = seen.learn(operation, answer) {
+    let mut answers = answers.lines();
+    for operation in script.lines().filter(|line| is_operation(line)) {
+        let learnt =
+            answers.next().ok_or("an operation has no answer").and_then(|answer| seen.learn(operation, answer));
+        if let Err(broken) = learnt {
             println!("BROKEN PROMISE: {broken}\n  queue:   {:x?}\n  written: {}", seen.queue, seen.written);
             return Ok(ExitCode::FAILURE);
         }
     }
     println!("{} queues pass, {} hold an excepted character", seen.passed, seen.excepted);
-    Ok(ExitCode::SUCCESS)
+    Ok(ExitCode::from(u8::from(seen.passed == 0 || seen.excepted == 0)))
 }
 
 /// What is seen of a text so far, and the counts.

@@ -18,33 +18,56 @@ pub mod write_cases;
 use crate::page::real_numbers;
 use crate::random::Random;
 
-/// The kinds of script.
-pub const KINDS: [&str; 13] = [
-    "cases",
-    "pages",
-    "utf8",
-    "leaves",
-    "every",
-    "isolate",
-    "scan",
-    "fill",
-    "write-cases",
-    "write",
-    "demand",
-    "stretches",
-    "sample",
+/// The kinds of script, each with what its answers must have, or nothing of that kind was compared: the operations (`P wrong`
+/// is a page that is not accepted) and the refusals.
+pub const KINDS: [(&str, &str, &[u32]); 14] = [
+    ("pages", "P, P wrong", &[]),
+    ("utf8", "L utf8", &[]),
+    ("every", "P, L check, L end, L replace, L start", &[1, 4]),
+    ("leaves", "P, P wrong, L check, L end, L replace, L start", &[1, 2, 4]),
+    ("isolate", "P, P wrong, L isolate", &[1, 2, 8]),
+    ("scan", "P, P wrong, S count, S fin, S new, S scan", &[1, 2, 8, 10]),
+    ("fill", "F", &[1, 7]),
+    (
+        "cases",
+        "P, P wrong, L check, L end, L isolate, L start, S count, S fin, S new, S scan, F",
+        &[1, 2, 4, 7, 8, 10],
+    ),
+    (
+        "write",
+        "P, P wrong, W abandon, W bytes, W chars, W close, W flush, W held, W new, W places",
+        &[1, 2, 3, 4, 5, 6, 8, 9, 11, 12, 13],
+    ),
+    (
+        "write-cases",
+        "P, P wrong, W abandon, W bytes, W chars, W close, W flush, W held, W new, W places",
+        &[1, 2, 3, 4, 5, 6, 8, 9, 11, 12, 13],
+    ),
+    ("demand", "P, P wrong, S fin, S new, S scan, W chars, W close, W new, L isolate", &[1, 2, 4, 8]),
+    (
+        "stretches",
+        "P, P wrong, L isolate, L utf8, S new, S scan, W abandon, W bytes, W chars, W close, W flush, W new",
+        &[1, 2, 3, 4, 5, 8, 12],
+    ),
+    (
+        "real",
+        "P, L isolate, S count, S fin, S new, S scan, W abandon, W bytes, W chars, W close, W flush, W held, W new, W places",
+        &[1, 3, 4, 5, 6, 8, 9, 10, 11, 12, 13],
+    ),
+    ("sample", "P, P wrong, L utf8", &[]),
 ];
 
 /// The lines of a script.
 pub type Lines = Box<dyn Iterator<Item = String>>;
 
 /// `count` operations of a kind; none if there is no such kind. `cases` and `write-cases` are whole whatever the count, in
-/// `every` the count is a step, one character in so many, and in `sample` it is that of the random ones. `demand` ends
-/// with a whole text, past the count.
+/// `every` the count is a step, one character in so many, in `sample` it is that of the random ones, and `real` has so many of
+/// each of its three kinds. `demand` ends with a whole text, past the count.
 pub fn script(kind: &str, seed: u64, count: usize) -> Option<Lines> {
     match kind {
         "every" => Some(Box::new(every::script(seed, count))),
         "stretches" => Some(Box::new(stretches::script(seed, count))),
+        "real" => Some(Box::new(with_real_page(seed, count))),
         _ => drawn(kind, seed, count).map(|lines| Box::new(lines.into_iter()) as Lines),
     }
 }
@@ -68,6 +91,12 @@ fn drawn(kind: &str, seed: u64, count: usize) -> Option<Vec<String>> {
         _ => return None,
     };
     Some(lines)
+}
+
+/// The operations of three kinds, with the real page in the place of every other.
+fn with_real_page(seed: u64, count: usize) -> impl Iterator<Item = String> {
+    let lines = ["isolate", "scan", "write"].into_iter().filter_map(move |kind| drawn(kind, seed, count)).flatten();
+    std::iter::once(real_page_line()).chain(lines.filter(|line| !line.starts_with('P')))
 }
 
 /// The operation of a page.
