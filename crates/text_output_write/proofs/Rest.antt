@@ -114,11 +114,7 @@ given-joined p r c = by (puts p r c) (λ e. rw e) (λ e. rw e)
 abbrev left : List ℕ → TextOutput → IsolateUnassigned → List ℕ → Stepped
 left p w r cs = stepsOf w (firstError cs) (isolatedFrom p r (map checked cs))
 
--- after steps that look at no error, and where a refused one ends
-stops-then : (s : Stepped) (more : TextOutput → Stepped) → (xs : List ℕ) (w : TextOutput) (n : List ℕ) → s ≡ stops xs w n →
-    andThen s more ≡ s
-stops-then s more xs w n e = rw e refl
-
+-- the steps of an accepted character look at no error
 turn-accepted : (p : List ℕ) (w : TextOutput) (r : IsolateUnassigned) (c : ℕ) (e f : List ℕ) → reasonOf c ≡ 0 →
     stepsOf w e (givesOut (isolatedBy p r c)) ≡ stepsOf w f (givesOut (isolatedBy p r c))
 turn-accepted p w r c e f h =
