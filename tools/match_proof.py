@@ -12,27 +12,42 @@ import re
 import subprocess
 import sys
 from pathlib import Path
+from typing import NamedTuple
 
 ROOT = Path(__file__).resolve().parent.parent
 
+
+class Case(NamedTuple):
+    """A function, and what its proof names."""
+    crate: str
+    function: str
+    kind: str  # the type of the answer
+    variants: list  # its variants; none of a number
+    rows: str  # the table
+    spec: str  # the definition
+    default: str  # the answer where no row has c
+    same: str  # the test that two answers are equal
+    sound: str  # its law
+    imports: list
+
+
 CASES = [
-    # crate, function, type of the answer and its variants, table, definition, answer where no row has c, equality test and
-    # its law, imports
-    ("replace", "replace", "Replaced", ["One", "Two", "Three"], "replacements", "replaceOf", "One c", "same-replaced",
-     "same-replaced→eq", [
-        "use lib.Dec.{T}",
-        "use Rattle.replace.specs.declared.Replaced.{Replaced}",
-        "use Rattle.replace.specs.declared.Replaced.the-variants.{One, Two, Three}",
-        "use Rattle.replace.specs.Replace.{replaceOf, replacements}",
-        "use Rattle.replace.proofs.Same.{same-replaced, same-replaced→eq}",
-        "use Rattle.replace.proofs.Rows.",
-    ]),
-    ("check_char", "reason", "ℕ", None, "refusals", "reasonOf", "0", "eqb", "eqb→eq", [
+    Case("replace", "replace", "Replaced", ["One", "Two", "Three"], "replacements", "replaceOf", "One c", "same-replaced",
+         "same-replaced→eq", [
+             "use lib.Dec.{T}",
+             "use Rattle.replace.specs.declared.Replaced.{Replaced}",
+             "use Rattle.replace.specs.declared.Replaced.the-variants.{One, Two, Three}",
+             "use Rattle.replace.specs.Replace.{replaceOf, replacements}",
+             "use Rattle.replace.proofs.Same.{same-replaced, same-replaced→eq}",
+             "use Rattle.replace.proofs.Rows.",
+         ]),
+    Case("check_char", "reason", "ℕ", [], "refusals", "reasonOf", "0", "eqb", "eqb→eq", [
         "use lib.Dec.{T, eqb, eqb→eq}",
         "use Rattle.check_char.specs.Check.{reasonOf, refusals}",
         "use Rattle.replace.proofs.Rows.",
     ]),
 ]
+# What the last import takes.
 ROWS = "{points, points-at, only, finds-one, Way, finding, outside-all, nth, Holds, all-right, way-holds}"
 
 
@@ -133,8 +148,9 @@ def listed(numbers):
     return "(" + " ∷ ".join(map(hex, numbers)) + " ∷ [])"
 
 
-def proof(crate, function, kind, variants, rows, spec, default, same, sound, imports):
+def proof(case):
     """The text of a proof."""
+    crate, function, kind, variants, rows, spec, default, same, sound, imports = case
     found = [way for _, way in walk(lowered(crate, function), Way())]
     keyed = sorted(((way.arm, way.keys) for way in found if way.keys), reverse=True)
     ways, answers = [], []
@@ -198,7 +214,7 @@ def proof(crate, function, kind, variants, rows, spec, default, same, sound, imp
 def main():
     if sys.argv[1:] not in ([], ["check"]):
         sys.exit("usage: tools/match_proof.py [check]")
-    made = {ROOT / "crates" / case[0] / "proofs" / case[1] / "Proof.antt": proof(*case) for case in CASES}
+    made = {ROOT / "crates" / case.crate / "proofs" / case.function / "Proof.antt": proof(case) for case in CASES}
     for path, text in made.items():
         name = path.relative_to(ROOT)
         if not sys.argv[1:]:
