@@ -1,41 +1,18 @@
--- What goes over to the caller comes back as it was: the two tables for states, modes and flags agree, and so do reading and writing
--- numbers. So a stream's records are handed on from call to call unchanged.
+-- What goes over to the caller comes back as it was, since the two tables for states, modes and flags agree, and so do reading and
+-- writing numbers. So a stream's records are handed on from call to call unchanged.
 --     record-back     a record as numbers, read again
 --     writer-back     the writer's record as numbers, read again
 --     Wide            each number of a list has 32 bits
 --     numbers-back    numbers as bytes, read again
 use Prim.Native.Nat.{ℕ, suc, _+_, _*_, _<_, _/_, _%_}
 use mathlib.Core.Path.{_≡_, refl}
-use mathlib.Core.Bool.{Bool, true, false}
 use mathlib.Core.List.{List, [], _∷_}
 use native.Mathlib.Omega.{arith}
 use lib.ListN.{getD}
-use Rattle.text_input.specs.declared.State.{State}
-use Rattle.text_input.specs.declared.State.the-variants.{Ground, Cr, Ff, Esc, CsiStart, Csi, Osc, Linux}
 use Rattle.text_input.specs.declared.TextInput.{TextInput}
-use Rattle.text_output.specs.declared.Mode.{Mode}
-use Rattle.text_output.specs.declared.Mode.the-variants.{Plain, Crlf, Color}
-use Rattle.text_output.specs.declared.Ground.the-variants.{Newline, ZwjOrPrepend, Other}
-use Rattle.text_output.specs.declared.State.{State as WriterState}
-use Rattle.text_output.specs.declared.State.the-variants.{Ground as Grounded, Esc as InEsc, Csi as InCsi}
 use Rattle.text_output.specs.declared.TextOutput.{TextOutput}
-use Rattle.basic_text.specs.Exports.{numberOf, numbersOf, bytesOf, flag, flagNumber, stateOf, stateNumber, recordOf, recordNumbers}
-use Rattle.basic_text.specs.Exports.{modeOf, modeNumber, writerStateOf, writerStateNumber, writerOf, writerNumbers}
-
-flag-back : (b : Bool) → flag (flagNumber b) ≡ b
-flag-back true = refl
-flag-back false = refl
-
-state-back : (s : State) → stateOf (stateNumber s) ≡ s
-state-back (Ground true) = refl
-state-back (Ground false) = refl
-state-back Cr = refl
-state-back Ff = refl
-state-back Esc = refl
-state-back CsiStart = refl
-state-back Csi = refl
-state-back Osc = refl
-state-back Linux = refl
+use Rattle.basic_text_numbers.proofs.Back.{flag-back, state-back, mode-back, writer-state-back}
+use Rattle.basic_text.specs.Exports.{numberOf, numbersOf, bytesOf, recordOf, recordNumbers, writerOf, writerNumbers}
 
 pub record-back : (r : TextInput) → recordOf (recordNumbers r) ≡ r
 record-back r =
@@ -46,18 +23,6 @@ record-back r =
       last = r .last;
       count = r .count;
     }
-
-mode-back : (m : Mode) → modeOf (modeNumber m) ≡ m
-mode-back Plain = refl
-mode-back Crlf = refl
-mode-back Color = refl
-
-writer-state-back : (s : WriterState) → writerStateOf (writerStateNumber s) ≡ s
-writer-state-back (Grounded Newline) = refl
-writer-state-back (Grounded ZwjOrPrepend) = refl
-writer-state-back (Grounded Other) = refl
-writer-state-back InEsc = refl
-writer-state-back InCsi = refl
 
 pub writer-back : (w : TextOutput) → writerOf (writerNumbers w) ≡ w
 writer-back w =

@@ -1,27 +1,20 @@
 -- What the exported calls read and write: bytes as 32-bit numbers, and a record, options and an answer as plain numbers. Document 01,
 -- "Rust shapes that give way": "Scan, finish and byte write are exported on numbers and byte slices for the Rust harness." The calls
--- themselves are those of `text_input`, specs/Scan.antt, and of `text_output`, specs/Write.antt. Which number stands for which state,
--- mode or option document 01 leaves open.
+-- themselves are those of `text_input`, specs/Scan.antt, and of `text_output`, specs/Write.antt. Which number stands for which flag,
+-- state or mode is in `basic_text_numbers`, specs/Numbers.antt.
 use Prim.Native.Nat.{ℕ, _+_, _*_, _/_, _%_}
-use mathlib.Core.Bool.{Bool, true, false, cond, not}
+use mathlib.Core.Bool.{cond}
 use mathlib.Core.List.{List, [], _∷_, _++_}
 use lib.Dec.{eqb}
 use lib.ListN.{length, drop, getD}
-use lib.Seq.{sets}
-use Rattle.text_input.specs.declared.State.{State}
-use Rattle.text_input.specs.declared.State.the-variants.{Ground, Cr, Ff, Esc, CsiStart, Csi, Osc, Linux}
+use Rattle.common.specs.Answers.{refusalIn, writtenIn}
 use Rattle.text_input.specs.declared.Options.{Options}
 use Rattle.text_input.specs.declared.TextInput.{TextInput}
-use Rattle.common.specs.Answers.{refusalIn, writtenIn}
 use Rattle.text_input.specs.Scan.{Outcome}
-use Rattle.text_output.specs.declared.Mode.{Mode}
-use Rattle.text_output.specs.declared.Mode.the-variants.{Plain, Crlf, Color}
-use Rattle.text_output.specs.declared.Ground.the-variants.{Newline, ZwjOrPrepend, Other}
-use Rattle.text_output.specs.declared.State.{State as WriterState}
-use Rattle.text_output.specs.declared.State.the-variants.{Ground as Grounded, Esc as InEsc, Csi as InCsi}
 use Rattle.text_output.specs.declared.TextOutput.{TextOutput}
 use Rattle.text_output.specs.Writer.{BytesOutcome}
 use Rattle.text_output.specs.Write.{succeeds}
+use Rattle.basic_text_numbers.specs.Numbers.{flag, flagNumber, stateOf, stateNumber, modeOf, modeNumber, writerStateOf, writerStateNumber}
 use Rattle.basic_text.specs.declared.Record.{Record}
 use Rattle.basic_text.specs.declared.Reply.{Reply}
 use Rattle.basic_text.specs.declared.Writer.{Writer}
@@ -50,22 +43,6 @@ abbrev pub pageOf : List ℕ → List ℕ
 pageOf bytes = cond (eqb (length bytes % 4) 0) (numbersOf bytes) []
 
 -- ---- a call's arguments
--- 0 is false, and any other number true. Document 01 leaves this open.
-abbrev pub flag : ℕ → Bool
-flag n = not (eqb n 0)
-
--- the states by number; a number past the last is read as 0. Document 01 leaves this open.
-abbrev pub stateOf : ℕ → State
-stateOf n =
-    cond (eqb n 1) (Ground true)
-    (cond (eqb n 2) Cr
-    (cond (eqb n 3) Ff
-    (cond (eqb n 4) Esc
-    (cond (eqb n 5) CsiStart
-    (cond (eqb n 6) Csi
-    (cond (eqb n 7) Osc
-    (cond (eqb n 8) Linux (Ground false))))))))
-
 abbrev pub recordOf : Record → TextInput
 recordOf r =
     record {
@@ -81,19 +58,6 @@ abbrev pub optionsOf : ℕ → Options
 optionsOf n = record { «nel_compatibility» = eqb (n % 2) 1; «lsps_compatibility» = eqb (n / 2 % 2) 1 }
 
 -- ---- a call's answer
-abbrev pub flagNumber : Bool → ℕ
-flagNumber b = cond b 1 0
-
-abbrev pub stateNumber : State → ℕ
-stateNumber (Ground line) = flagNumber line
-stateNumber Cr = 2
-stateNumber Ff = 3
-stateNumber Esc = 4
-stateNumber CsiStart = 5
-stateNumber Csi = 6
-stateNumber Osc = 7
-stateNumber Linux = 8
-
 abbrev pub recordNumbers : TextInput → Record
 recordNumbers r =
     record {
@@ -110,33 +74,6 @@ abbrev pub replyOf : Outcome → Reply
 replyOf s = record { refused = refusalIn (s .numbers); written = writtenIn (s .numbers); «record» = recordNumbers (s .next) }
 
 -- ---- the writer
--- the modes by number; a number past the last is read as 0. Document 01 leaves this open.
-abbrev pub modeOf : ℕ → Mode
-modeOf n = cond (eqb n 1) Crlf (cond (eqb n 2) Color Plain)
-
--- a mode's number
-abbrev pub modeNumber : Mode → ℕ
-modeNumber Plain = 0
-modeNumber Crlf = 1
-modeNumber Color = 2
-
--- the states by number: 0 after a newline, 1 after a non-end, 2 after another, 3 and 4 in an escape; a number past the last is read
--- as 0. Document 01 leaves this open.
-abbrev pub writerStateOf : ℕ → WriterState
-writerStateOf n =
-    cond (eqb n 1) (Grounded ZwjOrPrepend)
-    (cond (eqb n 2) (Grounded Other)
-    (cond (eqb n 3) InEsc
-    (cond (eqb n 4) InCsi (Grounded Newline))))
-
--- a state's number
-abbrev pub writerStateNumber : WriterState → ℕ
-writerStateNumber (Grounded Newline) = 0
-writerStateNumber (Grounded ZwjOrPrepend) = 1
-writerStateNumber (Grounded Other) = 2
-writerStateNumber InEsc = 3
-writerStateNumber InCsi = 4
-
 -- the writer's record from its numbers
 abbrev pub writerOf : Writer → TextOutput
 writerOf w =

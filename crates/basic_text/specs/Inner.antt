@@ -8,8 +8,7 @@ use lib.ListN.{length, drop}
 use Rattle.text_output_write.specs.declared.store.Place.{Place}
 use Rattle.text_output_write.specs.declared.store.Pushed.{Pushed}
 use Rattle.text_output_write.specs.declared.store.Pushed.the-variants.{On, Stopped}
-use Rattle.basic_text.specs.declared.plain_writer.Reason.{Reason}
-use Rattle.basic_text.specs.Exports.{numbersOf, reasonIn, characterIn, countIn, firstIn, secondIn, thirdIn}
+use Rattle.basic_text.specs.Exports.{numbersOf}
 
 -- the numbers of the longest page that is accepted: "N nonstarter ranges, A assigned ranges (0 to 2,048 each)" and "The length is
 -- exactly 2 + 2 × (N + A)"
@@ -19,18 +18,6 @@ longestPage = 8194
 -- a page that is too long to be accepted is as wrong as the empty one, and not read
 unfoldable pub fitting : List ℕ → List ℕ
 fitting p = cond (leb (length p) longestPage) p []
-
--- the reason of a refusal by 4, by its answer's numbers
-abbrev pub reasonBy : List ℕ → Reason
-reasonBy ns =
-    record {
-      number = reasonIn ns;
-      character = characterIn ns;
-      count = countIn ns;
-      first = firstIn ns;
-      second = secondIn ns;
-      third = thirdIn ns;
-    }
 
 -- the bytes past the last whole four
 abbrev pub tail : List ℕ → List ℕ

@@ -11,13 +11,13 @@ mod plain_writer;
 mod run;
 mod writing;
 
+use basic_text_numbers::flag_of;
 use common::Answer;
 use common::NO_ROOM;
 use numbers::hold_chars;
 use numbers::read_numbers;
 use numbers::write_numbers;
 use page::is_accepted;
-use plain::flag_of;
 use plain::options_of;
 use plain::record_of;
 use plain::reply_of;
@@ -36,7 +36,8 @@ ghost use lib.ListN.{length, take};
 ghost use lib.Seq.{sets};
 ghost use Rattle.text_input.specs.Scan.{outcome, scanOf, finishOf};
 ghost use Rattle.text_output.specs.Write.{writeOf};
-ghost use Rattle.basic_text.specs.Exports.{numbersOf, pageOf, flag, recordOf, optionsOf, replyOf, writerOf, writeReplyOf, bytesOf};
+ghost use Rattle.basic_text_numbers.specs.Numbers.{flag};
+ghost use Rattle.basic_text.specs.Exports.{numbersOf, bytesOf, pageOf, recordOf, optionsOf, replyOf, writerOf, writeReplyOf};
 ghost use Rattle.basic_text.specs.Inner.{longestPage, fitting};
 
 // The scanner's record. A state's number past the last is read as 0, and a flag is false at 0 alone.

@@ -1,46 +1,18 @@
 // A record, options and an answer as plain numbers, in both directions. Total.
 use super::Record;
 use super::Reply;
+use basic_text_numbers::flag_number;
+use basic_text_numbers::flag_of;
+use basic_text_numbers::state_number;
+use basic_text_numbers::state_of;
 use common::Answer;
 use text_input::Options;
 use text_input::Scanned;
-use text_input::State;
 use text_input::TextInput;
 ghost use mathlib.Core.Path.{_≡_};
 ghost use mathlib.Core.List.{[]};
 ghost use Rattle.text_input.specs.Scan.{outcome};
-ghost use Rattle.basic_text.specs.Exports.{flag, stateOf, recordOf, optionsOf, flagNumber, stateNumber, recordNumbers, replyOf};
-
-// 0 is false, and any other number true.
-pub fn flag_of(n: u32) -> bool
-    ensures { λ r. ⌜ r ≡ flag n ⌝ }
-{
-    !(n == 0)
-}
-
-fn state_of(n: u32) -> State
-    ensures { λ r. ⌜ r ≡ stateOf n ⌝ }
-{
-    if n == 1 {
-        State::Ground(true)
-    } else if n == 2 {
-        State::Cr
-    } else if n == 3 {
-        State::Ff
-    } else if n == 4 {
-        State::Esc
-    } else if n == 5 {
-        State::CsiStart
-    } else if n == 6 {
-        State::Csi
-    } else if n == 7 {
-        State::Osc
-    } else if n == 8 {
-        State::Linux
-    } else {
-        State::Ground(false)
-    }
-}
+ghost use Rattle.basic_text.specs.Exports.{recordOf, optionsOf, recordNumbers, replyOf};
 
 pub fn record_of(r: Record) -> TextInput
     ensures { λ t. ⌜ t ≡ recordOf r ⌝ }
@@ -62,27 +34,6 @@ pub fn options_of(n: u32) -> Options
     Options {
         nel_compatibility: n % 2 == 1,
         lsps_compatibility: n / 2 % 2 == 1,
-    }
-}
-
-pub fn flag_number(b: bool) -> u32
-    ensures { λ r. ⌜ r ≡ flagNumber b ⌝ }
-{
-    if b { 1 } else { 0 }
-}
-
-fn state_number(state: State) -> u32
-    ensures { λ r. ⌜ r ≡ stateNumber state ⌝ }
-{
-    match state {
-        State::Ground(line) => flag_number(line),
-        State::Cr => 2,
-        State::Ff => 3,
-        State::Esc => 4,
-        State::CsiStart => 5,
-        State::Csi => 6,
-        State::Osc => 7,
-        State::Linux => 8,
     }
 }
 

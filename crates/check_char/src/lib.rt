@@ -1,5 +1,10 @@
 // Which characters Basic Text refuses, and why. Ports `check_basic_text_char` of internals/src/check.rs and `Categorize` of
 // internals/src/categorize.rs. The crate is not called `check`: the toolchain has a library of that name.
+//     numbers.rt   a reason as plain numbers
+mod numbers;
+
+pub use numbers::Reason;
+pub use numbers::reason_of;
 use replace::Replaced;
 use replace::replace;
 use unicode::is_char;

@@ -3,7 +3,8 @@ use mathlib.Core.Path.{_≡_, ap, _∙_}
 use borrow.Author.Needs.{needs}
 use lib.Seq.{sets}
 use Rattle.text_input.specs.Scan.{Outcome, finishOf}
-use Rattle.basic_text.specs.Exports.{numbersOf, flag, recordOf, replyOf, bytesOf}
+use Rattle.basic_text_numbers.specs.Numbers.{flag}
+use Rattle.basic_text.specs.Exports.{numbersOf, bytesOf, recordOf, replyOf}
 use Rattle.basic_text.proofs.basic_text_finish.Statement.{statement}
 use Rattle.basic_text.proofs.basic_text_finish.Tie as tie
 

@@ -7,7 +7,8 @@ use lib.Dec.{eqb}
 use borrow.Author.Needs.{needs}
 use Rattle.text_output.specs.declared.TextOutput.{TextOutput}
 use Rattle.basic_text.specs.declared.WriteReply.{WriteReply}
-use Rattle.basic_text.specs.Exports.{flagNumber, writerNumbers, writeReplyOf}
+use Rattle.basic_text_numbers.specs.Numbers.{flagNumber}
+use Rattle.basic_text.specs.Exports.{writerNumbers, writeReplyOf}
 use Rattle.basic_text.proofs.plain_writer.write_reply_of.Statement.{statement}
 use Rattle.basic_text.proofs.plain_writer.write_reply_of.Tie as tie
 

@@ -1,7 +1,7 @@
--- `basic_text::plain_writer::reason_of` meets its contract: each arm is a case of `errorNumbers`.
+-- `check_char::numbers::reason_of` meets its contract: each arm is a case of `errorNumbers`.
 use borrow.Author.Needs.{needs}
-use Rattle.basic_text.proofs.plain_writer.reason_of.Statement.{statement}
-use Rattle.basic_text.proofs.plain_writer.reason_of.Tie as tie
+use Rattle.check_char.proofs.numbers.reason_of.Statement.{statement}
+use Rattle.check_char.proofs.numbers.reason_of.Tie as tie
 
 pub reason-of-spec : {M : Type 1} → statement M
 reason-of-spec =

@@ -1,0 +1,2 @@
+-- The laws that the proofs of other crates cite.
+pub mod Back
