@@ -7,11 +7,9 @@ use replay_words::front;
 use text_utils::Class;
 
 // `ok n=N out=LIST` with the first n of three characters.
-fn replaced_by(out: &mut [u8], at: usize, n: u64, chars: [u32; 3]) -> usize {
-    let mut end = answer::text(out, at, b"ok n=");
-    end = answer::hex(out, end, n);
-    end = answer::text(out, end, b" out=");
-    end = answer::list(out, end, front::numbers(&chars, n as usize));
+fn replaced_by(out: &mut [u8], at: usize, n: usize, chars: [u32; 3]) -> usize {
+    let stored = front::numbers(&chars, n);
+    let end = answer::listed(out, at, b"ok n=# out=", &[n as u64], stored);
     answer::byte(out, end, b'\n')
 }
 
@@ -49,9 +47,6 @@ pub fn check(c: u32, out: &mut [u8], at: usize) -> usize {
 pub fn class(found: Class, out: &mut [u8], at: usize) -> usize {
     match found {
         Class::Refused(n) => answer::no(out, at, n),
-        Class::Is(is) => {
-            let end = answer::flag(out, at, b"ok ", is);
-            answer::byte(out, end, b'\n')
-        }
+        Class::Is(is) => answer::told(out, at, b"ok #\n", &[answer::bit(is)]),
     }
 }

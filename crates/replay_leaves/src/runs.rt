@@ -1,5 +1,7 @@
 // The operations on bytes and on a run of characters: `L utf8` and `L isolate`.
 use common::Answer;
+use replay_words::NUMBERS;
+use replay_words::PLACES;
 use replay_words::answer;
 use replay_words::answer::Why;
 use replay_words::blank;
@@ -9,22 +11,30 @@ use replay_words::words;
 use replay_words::words::Stored;
 
 // Answers how many bytes the longest valid prefix has, and its characters.
-fn decoded(bytes: &[u8], places: &mut [u32], out: &mut [u8], at: usize) -> usize {
-    let prefix = unicode::decode_utf8(bytes, places);
+fn decoded(bytes: &[u8], out: &mut [u8], at: usize) -> usize {
+    let mut places = [0u32; PLACES];
+    let prefix = unicode::decode_utf8(bytes, &mut places);
     let n = prefix.chars;
-    let mut end = answer::text(out, at, b"ok used=");
-    end = answer::hex(out, end, prefix.bytes as u64);
-    end = answer::text(out, end, b" out=");
-    end = answer::list(out, end, front::numbers(places, n));
+    let chars = front::numbers(&places, n);
+    let end = answer::listed(out, at, b"ok used=# out=", &[prefix.bytes as u64], chars);
     answer::byte(out, end, b'\n')
 }
 
-// `L utf8 b b ..`: takes the numbers given for bytes, and decodes them.
-pub fn decode(given: &[u32], places: &mut [u32], out: &mut [u8], at: usize) -> usize {
-    let mut bytes = [0u8; 9000];
+// Takes the numbers given for bytes, and decodes them.
+fn decode(given: &[u32], out: &mut [u8], at: usize) -> usize {
+    let mut bytes = [0u8; NUMBERS];
     match words::bytes(given, &mut bytes) {
         Stored::Bad(why) => answer::refuse(out, at, why),
-        Stored::All(n) => decoded(front::bytes(&bytes, n), places, out, at),
+        Stored::All(n) => decoded(front::bytes(&bytes, n), out, at),
+    }
+}
+
+// `L utf8 b b ..`
+pub fn utf8(line: &[u8], place: usize, out: &mut [u8], at: usize) -> usize {
+    let mut numbers = [0u32; NUMBERS];
+    match words::numbers(line, place, &mut numbers) {
+        Stored::Bad(why) => answer::refuse(out, at, why),
+        Stored::All(n) => decode(front::numbers(&numbers, n), out, at),
     }
 }
 
@@ -44,20 +54,24 @@ fn isolated(page: &[u32], chars: &[u32], places: &mut [u32], out: &mut [u8], at:
     answer::byte(out, end, b'\n')
 }
 
-// `L isolate ROOM c c ..`, with the numbers given.
-pub fn isolate(
-    given: &[u32],
-    page: &[u32],
-    places: &mut [u32],
-    out: &mut [u8],
-    at: usize,
-) -> usize {
+// The room and the run given, with so many places lent.
+fn isolate_given(given: &[u32], page: &[u32], out: &mut [u8], at: usize) -> usize {
     if given.len() == 0 {
         return answer::refuse(out, at, Why::Number);
     }
     let room = words::size(given[0]);
-    if places.len() < room {
+    if PLACES < room {
         return answer::refuse(out, at, Why::Room);
     }
+    let mut places = [0u32; PLACES];
     isolated(page, &given[1..], &mut places[0..room], out, at)
+}
+
+// `L isolate ROOM c c ..`
+pub fn isolate(line: &[u8], place: usize, page: &[u32], out: &mut [u8], at: usize) -> usize {
+    let mut numbers = [0u32; NUMBERS];
+    match words::numbers(line, place, &mut numbers) {
+        Stored::Bad(why) => answer::refuse(out, at, why),
+        Stored::All(n) => isolate_given(front::numbers(&numbers, n), page, out, at),
+    }
 }

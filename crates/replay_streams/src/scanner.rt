@@ -1,10 +1,12 @@
 // The operations `S ..`: calls on the current scanner, whose record comes in and goes out by value.
+use basic_text_numbers::state_number;
+use replay_words::NUMBERS;
+use replay_words::PLACES;
 use replay_words::answer;
 use replay_words::answer::Why;
 use replay_words::blank;
 use replay_words::front;
 use replay_words::words;
-use replay_words::words::Rest;
 use replay_words::words::Single;
 use replay_words::words::Stored;
 use text_input::Options;
@@ -17,56 +19,47 @@ pub struct Answered {
     pub out: usize,
 }
 
-// A scanner's state in an answer.
-fn state_number(state: text_input::State) -> u64 {
-    match state {
-        text_input::State::Ground(line) => { if line { 1 } else { 0 } }
-        text_input::State::Cr => 2,
-        text_input::State::Ff => 3,
-        text_input::State::Esc => 4,
-        text_input::State::CsiStart => 5,
-        text_input::State::Csi => 6,
-        text_input::State::Osc => 7,
-        text_input::State::Linux => 8,
+// Says why a line is no operation, which changes nothing.
+fn refuse(scanner: TextInput, out: &mut [u8], at: usize, why: Why) -> Answered {
+    Answered {
+        scanner,
+        out: answer::refuse(out, at, why),
     }
 }
 
-// The flags of a record.
-fn flags(scanner: TextInput, out: &mut [u8], at: usize) -> usize {
-    let mut end = answer::flag(out, at, b" es=", scanner.expect_starter);
-    end = answer::flag(out, end, b" bom=", scanner.at_start);
-    let is_end = text_utils::is_basic_text_end(scanner.last);
-    answer::flag(out, end, b" end=", is_end)
-}
-
-// ` | REC`, and the line's end.
-fn record(scanner: TextInput, out: &mut [u8], at: usize) -> usize {
+// Ends an answer with ` | REC`.
+fn told(scanner: TextInput, out: &mut [u8], at: usize) -> Answered {
     let pending = scanner.state;
-    let mut end = answer::text(out, at, b" | st=");
-    end = answer::decimal(out, end, state_number(pending));
-    end = flags(scanner, out, end);
-    end = answer::text(out, end, b" cnt=");
-    end = answer::number(out, end, scanner.count);
-    answer::byte(out, end, b'\n')
+    let values = [
+        state_number(pending) as u64,
+        answer::bit(scanner.expect_starter),
+        answer::bit(scanner.at_start),
+        answer::bit(text_utils::is_basic_text_end(scanner.last)),
+        scanner.count as u64,
+    ];
+    Answered {
+        scanner,
+        out: answer::told(out, at, b" | st=# es=# bom=# end=# cnt=#\n", &values),
+    }
 }
 
-// What a call came to: why it is none, the scanner after `new` or `count`, or what a call answered
-// that was lent so many places.
-enum Called {
-    Bad(Why),
-    New(TextInput),
-    Count(TextInput),
-    Stored(usize, Scanned),
+// What a call answered that was lent these places.
+fn came(scanned: Scanned, places: &[u32], out: &mut [u8], at: usize) -> Answered {
+    let found = scanned.answer;
+    let next = scanned.next;
+    let end = replay_leaves::outcome(found, places, out, at);
+    told(next, out, end)
 }
 
 // `S count N`, with the number given.
-fn count(given: Single, scanner: TextInput) -> Called {
+fn count(given: Single, scanner: TextInput, out: &mut [u8], at: usize) -> Answered {
     match given {
-        Single::Bad(why) => Called::Bad(why),
+        Single::Bad(why) => refuse(scanner, out, at, why),
         Single::Is(n) => {
             let mut next = scanner;
             next.count = n;
-            Called::Count(next)
+            let end = answer::text(out, at, b"count");
+            told(next, out, end)
         }
     }
 }
@@ -78,160 +71,124 @@ fn scan_into(
     page: &[u32],
     places: &mut [u32],
     scanner: TextInput,
-) -> Scanned {
+    out: &mut [u8],
+    at: usize,
+) -> Answered {
     blank::make_blank(places);
     let on = Options {
         nel_compatibility: (options == 1) | (options == 3),
         lsps_compatibility: 2 <= options,
     };
-    scanner.scan(page, on, chunk, places)
+    let scanned = scanner.scan(page, on, chunk, places);
+    came(scanned, places, out, at)
 }
 
-// `S scan OPT ROOM c c ..`, with the numbers given.
-fn scan(given: &[u32], page: &[u32], places: &mut [u32], scanner: TextInput) -> Called {
+// The options, the room and the chunk given, with so many places lent.
+fn scan_given(
+    given: &[u32],
+    page: &[u32],
+    scanner: TextInput,
+    out: &mut [u8],
+    at: usize,
+) -> Answered {
     if given.len() < 2 {
-        return Called::Bad(Why::Number);
+        return refuse(scanner, out, at, Why::Number);
     }
     let options = given[0];
     if options > 3 {
-        return Called::Bad(Why::Options);
+        return refuse(scanner, out, at, Why::Options);
     }
     let room = words::size(given[1]);
-    if places.len() < room {
-        return Called::Bad(Why::Room);
+    if PLACES < room {
+        return refuse(scanner, out, at, Why::Room);
     }
-    let scanned = scan_into(options, &given[2..], page, &mut places[0..room], scanner);
-    Called::Stored(room, scanned)
+    let mut places = [0u32; PLACES];
+    scan_into(
+        options,
+        &given[2..],
+        page,
+        &mut places[0..room],
+        scanner,
+        out,
+        at,
+    )
+}
+
+// `S scan OPT ROOM c c ..`
+fn scan(
+    line: &[u8],
+    place: usize,
+    page: &[u32],
+    scanner: TextInput,
+    out: &mut [u8],
+    at: usize,
+) -> Answered {
+    let mut numbers = [0u32; NUMBERS];
+    match words::numbers(line, place, &mut numbers) {
+        Stored::Bad(why) => refuse(scanner, out, at, why),
+        Stored::All(n) => scan_given(front::numbers(&numbers, n), page, scanner, out, at),
+    }
 }
 
 // A finish into blank places.
-fn finish_into(eof: bool, places: &mut [u32], scanner: TextInput) -> Scanned {
+fn finish_into(
+    eof: bool,
+    places: &mut [u32],
+    scanner: TextInput,
+    out: &mut [u8],
+    at: usize,
+) -> Answered {
     blank::make_blank(places);
-    scanner.finish(eof, places)
+    let finished = scanner.finish(eof, places);
+    came(finished, places, out, at)
 }
 
-// `S fin p` or `S fin e`, with the number given.
-fn finish(eof: bool, given: Single, places: &mut [u32], scanner: TextInput) -> Called {
+// `S fin p` or `S fin e`, with the room given.
+fn finish(eof: bool, given: Single, scanner: TextInput, out: &mut [u8], at: usize) -> Answered {
     match given {
-        Single::Bad(why) => Called::Bad(why),
+        Single::Bad(why) => refuse(scanner, out, at, why),
         Single::Is(n) => {
             let room = words::size(n);
-            if places.len() < room {
-                return Called::Bad(Why::Room);
+            if PLACES < room {
+                return refuse(scanner, out, at, Why::Room);
             }
-            let finished = finish_into(eof, &mut places[0..room], scanner);
-            Called::Stored(room, finished)
+            let mut places = [0u32; PLACES];
+            finish_into(eof, &mut places[0..room], scanner, out, at)
         }
     }
 }
 
-// Which call a line is, with the place after its words.
-enum Call {
-    New,
-    Count(usize),
-    Scan(usize),
-    Finish(bool, usize),
-    Other,
-}
-
-fn which(line: &[u8]) -> Call {
-    if let Rest::At(place) = words::after(line, b"S scan") {
-        return Call::Scan(place);
+// `S new`, where nothing stands after it.
+fn new(is_whole: bool, scanner: TextInput, out: &mut [u8], at: usize) -> Answered {
+    if is_whole {
+        let end = answer::text(out, at, b"new");
+        return told(TextInput::new(), out, end);
     }
-    if let Rest::At(place) = words::after(line, b"S fin p") {
-        return Call::Finish(false, place);
-    }
-    if let Rest::At(place) = words::after(line, b"S fin e") {
-        return Call::Finish(true, place);
-    }
-    if let Rest::At(place) = words::after(line, b"S count") {
-        return Call::Count(place);
-    }
-    if let Rest::At(place) = words::after(line, b"S new") {
-        if place == line.len() {
-            return Call::New;
-        }
-    }
-    Call::Other
-}
-
-// `S scan`, with the numbers stored.
-fn scan_stored(
-    stored: Stored,
-    numbers: &[u32],
-    page: &[u32],
-    places: &mut [u32],
-    scanner: TextInput,
-) -> Called {
-    match stored {
-        Stored::Bad(why) => Called::Bad(why),
-        Stored::All(n) => scan(front::numbers(numbers, n), page, places, scanner),
-    }
-}
-
-// Makes the call.
-fn made(
-    line: &[u8],
-    numbers: &mut [u32],
-    page: &[u32],
-    places: &mut [u32],
-    scanner: TextInput,
-) -> Called {
-    match which(line) {
-        Call::New => Called::New(TextInput::new()),
-        Call::Count(place) => count(words::one_number(line, place), scanner),
-        Call::Scan(place) => {
-            let stored = words::numbers(line, place, numbers);
-            scan_stored(stored, numbers, page, places, scanner)
-        }
-        Call::Finish(eof, place) => finish(eof, words::one_number(line, place), places, scanner),
-        Call::Other => Called::Bad(Why::Word),
-    }
-}
-
-// Answers what the call came to, and ends the line with the record.
-fn tell(called: Called, places: &[u32], out: &mut [u8], at: usize, scanner: TextInput) -> Answered {
-    match called {
-        Called::Bad(why) => Answered {
-            scanner,
-            out: answer::refuse(out, at, why),
-        },
-        Called::New(next) => {
-            let end = answer::text(out, at, b"new");
-            Answered {
-                scanner: next,
-                out: record(next, out, end),
-            }
-        }
-        Called::Count(next) => {
-            let end = answer::text(out, at, b"count");
-            Answered {
-                scanner: next,
-                out: record(next, out, end),
-            }
-        }
-        Called::Stored(room, scanned) => {
-            let found = scanned.answer;
-            let next = scanned.next;
-            let end = replay_leaves::outcome(found, front::numbers(places, room), out, at);
-            Answered {
-                scanner: next,
-                out: record(next, out, end),
-            }
-        }
-    }
+    refuse(scanner, out, at, Why::Word)
 }
 
 // Answers a line whose first letter is S.
 pub fn operate(
     line: &[u8],
-    numbers: &mut [u32],
     page: &[u32],
-    places: &mut [u32],
     out: &mut [u8],
     at: usize,
     scanner: TextInput,
 ) -> Answered {
-    let called = made(line, numbers, page, places, scanner);
-    tell(called, places, out, at, scanner)
+    let found = words::which(line, b"S scan\nS fin p\nS fin e\nS count\nS new\n");
+    let number = found.number;
+    let place = found.place;
+    match number {
+        0 => scan(line, place, page, scanner, out, at),
+        1 | 2 => finish(
+            number == 2,
+            words::one_number(line, place),
+            scanner,
+            out,
+            at,
+        ),
+        3 => count(words::one_number(line, place), scanner, out, at),
+        4 => new(place == line.len(), scanner, out, at),
+        _ => refuse(scanner, out, at, Why::Word),
+    }
 }

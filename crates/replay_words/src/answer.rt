@@ -47,27 +47,49 @@ pub fn text(out: &mut [u8], at: usize, bytes: &[u8]) -> usize {
     end
 }
 
-// A number in hexadecimal, lower case, with no zeros in front.
-pub fn hex(out: &mut [u8], at: usize, n: u64) -> usize {
+// A number in hexadecimal, lower case, with at least so many digits.
+fn hex(out: &mut [u8], at: usize, n: u64, least: usize) -> usize {
     let mut digits = [0u8; 16];
-    let k = io::hex(n, 1, &mut digits);
+    let k = io::hex(n, least, &mut digits);
     text(out, at, &digits[..k])
 }
 
 // A number in decimal.
-pub fn decimal(out: &mut [u8], at: usize, n: u64) -> usize {
+pub fn decimal(out: &mut [u8], at: usize, n: u32) -> usize {
     let mut digits = [0u8; 20];
-    let k = io::decimal(n, &mut digits);
+    let k = io::decimal(n as u64, &mut digits);
     text(out, at, &digits[..k])
+}
+
+// A flag as a value.
+pub fn bit(is: bool) -> u64 {
+    if is { 1 } else { 0 }
+}
+
+// The bytes of a pattern, and for each `#` of it the next value, in hexadecimal.
+pub fn told(out: &mut [u8], at: usize, pattern: &[u8], values: &[u64]) -> usize {
+    let mut end = at;
+    let mut k = 0;
+    let mut i = 0;
+    while i < pattern.len() {
+        let b = pattern[i];
+        if b != b'#' {
+            end = byte(out, end, b);
+        } else if k < values.len() {
+            end = hex(out, end, values[k], 1);
+            k += 1;
+        }
+        i += 1;
+    }
+    end
 }
 
 fn wide(n: u32) -> u64 {
     n as u64
 }
 
-// A 32-bit number in hexadecimal.
-pub fn number(out: &mut [u8], at: usize, n: u32) -> usize {
-    hex(out, at, wide(n))
+fn byte_value(b: u8) -> u64 {
+    b as u64
 }
 
 // Numbers in hexadecimal, joined by commas, or `-` where there are none.
@@ -75,21 +97,19 @@ pub fn list(out: &mut [u8], at: usize, numbers: &[u32]) -> usize {
     if numbers.len() == 0 {
         return byte(out, at, b'-');
     }
-    let mut end = hex(out, at, wide(numbers[0]));
+    let mut end = hex(out, at, wide(numbers[0]), 1);
     let mut i = 1;
     while i < numbers.len() {
-        end = byte(out, end, b',');
-        end = hex(out, end, wide(numbers[i]));
+        end = told(out, end, b",#", &[wide(numbers[i])]);
         i += 1;
     }
     end
 }
 
-// A byte as two hexadecimal digits.
-fn pair(out: &mut [u8], at: usize, b: u8) -> usize {
-    let mut digits = [0u8; 16];
-    let k = io::hex(b as u64, 2, &mut digits);
-    text(out, at, &digits[..k])
+// A pattern with its values, and then a list.
+pub fn listed(out: &mut [u8], at: usize, pattern: &[u8], values: &[u64], numbers: &[u32]) -> usize {
+    let end = told(out, at, pattern, values);
+    list(out, end, numbers)
 }
 
 // Bytes as pairs of digits, or `-` where there are none.
@@ -100,25 +120,16 @@ pub fn pairs(out: &mut [u8], at: usize, bytes: &[u8]) -> usize {
     let mut end = at;
     let mut i = 0;
     while i < bytes.len() {
-        end = pair(out, end, bytes[i]);
+        end = hex(out, end, byte_value(bytes[i]), 2);
         i += 1;
     }
     end
 }
 
-// A name, and 0 or 1.
-pub fn flag(out: &mut [u8], at: usize, name: &[u8], is: bool) -> usize {
-    let end = text(out, at, name);
-    if is {
-        return byte(out, end, b'1');
-    }
-    byte(out, end, b'0')
-}
-
 // A refusal: `no ` and its number, in decimal.
 pub fn refusal(out: &mut [u8], at: usize, n: u32) -> usize {
     let end = text(out, at, b"no ");
-    decimal(out, end, wide(n))
+    decimal(out, end, n)
 }
 
 // The whole line of a refusal that carries nothing more.
@@ -127,17 +138,46 @@ pub fn no(out: &mut [u8], at: usize, n: u32) -> usize {
     byte(out, end, b'\n')
 }
 
+// One of some lines, by its number counted from 0, with its end.
+fn line(out: &mut [u8], at: usize, lines: &[u8], n: usize) -> usize {
+    let mut end = at;
+    let mut before = n;
+    let mut i = 0;
+    while i < lines.len() {
+        let b = lines[i];
+        i += 1;
+        if 0 < before {
+            if b == b'\n' {
+                before -= 1;
+            }
+        } else {
+            end = byte(out, end, b);
+            if b == b'\n' {
+                return end;
+            }
+        }
+    }
+    end
+}
+
+// Which of the lines of `refuse`.
+fn place(why: Why) -> usize {
+    match why {
+        Why::Word => 0,
+        Why::Number => 1,
+        Why::Byte => 2,
+        Why::Many => 3,
+        Why::Long => 4,
+        Why::Room => 5,
+        Why::Options => 6,
+        Why::Pattern => 7,
+        Why::Held => 8,
+    }
+}
+
 // The whole line that says why: `? ` and a word.
 pub fn refuse(out: &mut [u8], at: usize, why: Why) -> usize {
-    match why {
-        Why::Word => text(out, at, b"? word\n"),
-        Why::Number => text(out, at, b"? number\n"),
-        Why::Byte => text(out, at, b"? byte\n"),
-        Why::Many => text(out, at, b"? many\n"),
-        Why::Long => text(out, at, b"? long\n"),
-        Why::Room => text(out, at, b"? room\n"),
-        Why::Options => text(out, at, b"? options\n"),
-        Why::Pattern => text(out, at, b"? pattern\n"),
-        Why::Held => text(out, at, b"? held\n"),
-    }
+    let end = text(out, at, b"? ");
+    let words = b"word\nnumber\nbyte\nmany\nlong\nroom\noptions\npattern\nheld\n";
+    line(out, end, words, place(why))
 }

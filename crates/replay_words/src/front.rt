@@ -17,3 +17,16 @@ pub fn numbers(all: &[u32], n: usize) -> &[u32] {
     }
     all
 }
+
+// Copies the numbers to the front of others, as far as there is room, and answers how many that are.
+pub fn copy(from: &[u32], to: &mut [u32]) -> usize {
+    let mut i = 0;
+    while i < from.len() {
+        if to.len() <= i {
+            break;
+        }
+        to[i] = from[i];
+        i += 1;
+    }
+    i
+}

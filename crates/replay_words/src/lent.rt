@@ -4,9 +4,9 @@ use crate::answer;
 use crate::blank;
 use crate::front;
 
-// `clean` or `dirty`: whether the places from k on are as they were.
-pub fn cleanliness(places: &[u32], k: usize, out: &mut [u8], at: usize) -> usize {
-    if blank::is_blank(places, k) {
+// `clean` or `dirty`.
+pub fn cleanliness(clean: bool, out: &mut [u8], at: usize) -> usize {
+    if clean {
         return answer::text(out, at, b" clean");
     }
     answer::text(out, at, b" dirty")
@@ -15,14 +15,12 @@ pub fn cleanliness(places: &[u32], k: usize, out: &mut [u8], at: usize) -> usize
 // `no NUMBER`, and whether all places are as they were, without the line's end.
 pub fn nothing_written(places: &[u32], number: u32, out: &mut [u8], at: usize) -> usize {
     let end = answer::refusal(out, at, number);
-    cleanliness(places, 0, out, end)
+    cleanliness(blank::is_blank(places, 0), out, end)
 }
 
 // `ok n=N out=LIST`, and whether the places past those are as they were, without the line's end.
 pub fn written(places: &[u32], k: usize, out: &mut [u8], at: usize) -> usize {
-    let mut end = answer::text(out, at, b"ok n=");
-    end = answer::hex(out, end, k as u64);
-    end = answer::text(out, end, b" out=");
-    end = answer::list(out, end, front::numbers(places, k));
-    cleanliness(places, k, out, end)
+    let stored = front::numbers(places, k);
+    let end = answer::listed(out, at, b"ok n=# out=", &[k as u64], stored);
+    cleanliness(blank::is_blank(places, k), out, end)
 }

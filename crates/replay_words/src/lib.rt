@@ -9,3 +9,9 @@ pub mod front;
 pub mod lent;
 pub mod lines;
 pub mod words;
+
+// How many numbers a line can have.
+pub const NUMBERS: usize = 9000;
+
+// How many places can be lent to a call.
+pub const PLACES: usize = 16384;

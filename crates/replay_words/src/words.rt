@@ -4,30 +4,44 @@ use crate::answer::Why;
 use crate::lines;
 ghost use Prim.Native.Nat.{_≤_};
 
-// The place where an operation's words end, or that the line begins with others.
-pub enum Rest {
-    At(usize),
-    Other,
+// The byte at an index of a line, and past the line's end a newline, which no line has.
+pub fn byte_at(line: &[u8], i: usize) -> u8 {
+    if i < line.len() {
+        return line[i];
+    }
+    b'\n'
 }
 
-// Whether a line begins with these words, and a blank or its end follows.
-pub fn after(line: &[u8], words: &[u8]) -> Rest {
+// Which of some operations a line is, counted from 0, and the place where its words end.
+pub struct Operation {
+    pub number: usize,
+    pub place: usize,
+}
+
+// The first of the operations listed with whose words a line begins, a blank or the line's end behind
+// them. Each operation's words end with a newline. Where it is none, the number is how many they are.
+pub fn which(line: &[u8], listed: &[u8]) -> Operation {
+    let mut number = 0;
+    let mut place = 0;
+    let mut same = true;
     let mut i = 0;
-    while i < words.len() {
-        if line.len() <= i {
-            return Rest::Other;
-        }
-        if line[i] != words[i] {
-            return Rest::Other;
+    while i < listed.len() {
+        let expected = listed[i];
+        let found = byte_at(line, place);
+        if expected != b'\n' {
+            same = same & (found == expected);
+            place += 1;
+        } else {
+            if same & ((found == b' ') | (found == b'\n')) {
+                return Operation { number, place };
+            }
+            number += 1;
+            place = 0;
+            same = true;
         }
         i += 1;
     }
-    if i < line.len() {
-        if line[i] != b' ' {
-            return Rest::Other;
-        }
-    }
-    Rest::At(i)
+    Operation { number, place }
 }
 
 // The value of a hexadecimal digit, 16 for any other byte.
@@ -149,23 +163,13 @@ pub fn bytes(numbers: &[u32], out: &mut [u8]) -> Stored {
     Stored::All(i)
 }
 
-// The byte that two digits from an index on make, 100 where they are none.
-fn pair(line: &[u8], from: usize) -> u32 {
-    if line.len() <= from {
+// The byte that two digits make, above ff where they are none.
+fn pair(high: u8, low: u8) -> u32 {
+    let last = digit(low);
+    if last > 15 {
         return 0x100;
     }
-    if line.len() <= from + 1 {
-        return 0x100;
-    }
-    let high = digit(line[from]);
-    let low = digit(line[from + 1]);
-    if high > 15 {
-        return 0x100;
-    }
-    if low > 15 {
-        return 0x100;
-    }
-    high * 16 + low
+    digit(high) * 16 + last
 }
 
 // How many bytes a word of pairs of digits has, where more than there is room for are one more than
@@ -184,7 +188,7 @@ pub fn pairs(line: &[u8], from: usize, out: &mut [u8]) -> Paired {
         if line[i] == b' ' {
             break;
         }
-        let b = pair(line, i);
+        let b = pair(line[i], byte_at(line, i + 1));
         if b > 0xff {
             return Paired::No;
         }

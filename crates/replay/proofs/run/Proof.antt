@@ -1,5 +1,5 @@
 -- `replay::run` is safe and ends. The buffers keep their lengths, and the measure is the number of turns that are left.
--- What holds in the loop lies behind the answer of `take_block`, too far back for `search`: it is named.
+-- What holds in the loop lies behind the answer of `answer_line`, too far back for `search`: it is named.
 use Prim.Native.Nat.{_<_}
 use mathlib.Core.Path.{_≡_}
 use lib.ListN.{length}
@@ -9,17 +9,17 @@ use Rattle.replay.proofs.run.Statement.{statement}
 use Rattle.replay.proofs.run.Tie as tie
 
 abbrev Inv-loop : tie.InvT-loop
-Inv-loop line₀ numbers₀ page₀ places₀ list₀ out₀ block₀ state₀ turns₀ line numbers page places list out block state turns =
-    (length line ≡ length line₀) × (length numbers ≡ length numbers₀) × (length page ≡ length page₀) × (length places ≡ length places₀) × (length list ≡ length list₀) × (length out ≡ length out₀) × (65536 ≡ length block)
+Inv-loop block₀ line₀ page₀ list₀ out₀ read₀ state₀ turns₀ block line page list out read state turns =
+    (length block ≡ length block₀) × (length line ≡ length line₀) × (length page ≡ length page₀) × (length list ≡ length list₀) × (length out ≡ length out₀)
 
 abbrev μ-loop : tie.MeasureT-loop
-μ-loop line₀ numbers₀ page₀ places₀ list₀ out₀ block₀ state₀ turns₀ line numbers page places list out block state turns =
+μ-loop block₀ line₀ page₀ list₀ out₀ read₀ state₀ turns₀ block line page list out read state turns =
     turns
 
--- in the loop, before the read
-abbrev turned : tie.After-slice-known12 Inv-loop μ-loop → tie.In-loop Inv-loop μ-loop
+-- in the loop, before the next line is gathered
+abbrev turned : tie.After-slice-known10 Inv-loop μ-loop → tie.In-loop Inv-loop μ-loop
 turned c =
-    c .before .before .before .before .before .before .before .before .before .before .before .before .before .before .before .before .before .before .before .before .before .before .before .before .before .before
+    c .before .before .before .before .before .before .before .before .before .before .before .before .before .before .before .before .before .before .before .before
 
 loop-less : tie.Need-loop-less Inv-loop μ-loop
 loop-less c = let more : 0 < turned c .before .loop .turns = turned c .loop-test .taken in omega (arith, more)
@@ -32,8 +32,6 @@ loop-again c =
       search (needs, i .2),
       search (needs, i .3),
       search (needs, i .4),
-      search (needs, i .5),
-      search (needs, i .6),
     )
 
 pub run-spec : {M : Type 1} → statement M
@@ -46,18 +44,11 @@ run-spec =
     (λ c κs. search needs)
     (λ c. search needs)
     (λ c. search needs)
-    (λ c. search needs)
     (λ c κs. search needs)
-    (λ c. search needs)
-    (λ c κs. search needs)
-    (λ c. search needs)
-    (λ c. search needs)
     (λ c κs. search needs)
     loop-less
     loop-again
     (λ c κs. search needs)
-    (λ c κs. search needs)
-    (λ c. search needs)
     (λ c. search needs)
     (λ c. search needs)
     (λ c. search needs)

@@ -7,10 +7,10 @@ use Rattle.replay_words.proofs.answer.list.Statement.{statement}
 use Rattle.replay_words.proofs.answer.list.Tie as tie
 
 abbrev Inv-loop : tie.InvT-loop
-Inv-loop out₀ at numbers end₀ i₀ out end i = length out ≡ length out₀
+Inv-loop out₀ at numbers end₀ i₀ t6 out end i = length out ≡ length out₀
 
 abbrev μ-loop : tie.MeasureT-loop
-μ-loop out₀ at numbers end₀ i₀ out end i = length numbers - i
+μ-loop out₀ at numbers end₀ i₀ t6 out end i = length numbers - i
 
 pub list-spec : {M : Type 1} → statement M
 list-spec =
@@ -25,10 +25,11 @@ list-spec =
     (λ c κs. search needs)
     (λ c κs. search needs)
     (λ c. search needs)
-    (λ c κs. search needs)
     (λ c. search needs)
     (λ c. search needs)
+    (λ c. search needs)
     (λ c κs. search needs)
+    (λ c. search needs)
     (λ c κs. search needs)
     (λ c. search needs)
     (λ c. search needs)
