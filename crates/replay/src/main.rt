@@ -60,21 +60,27 @@ impl State {
 // Answers a line whose first letter is S.
 fn scan(line: &[u8], page: &[u32], out: &mut [u8], state: State) -> State {
     let done = scanner::operate(line, page, out, state.out, state.scanner);
-    let after = done.scanner;
-    let mut new = state;
-    new.scanner = after;
-    new.out = done.out;
-    new
+    let scanner = done.scanner;
+    let writer = state.writer;
+    State {
+        page: state.page,
+        out: done.out,
+        scanner,
+        writer,
+    }
 }
 
 // Answers a line whose first letter is W.
 fn write(line: &[u8], page: &[u32], list: &mut [u32], out: &mut [u8], state: State) -> State {
     let done = replay_writer::operate(line, page, list, out, state.out, state.writer);
-    let after = done.current;
-    let mut new = state;
-    new.writer = after;
-    new.out = done.out;
-    new
+    let scanner = state.scanner;
+    let writer = done.current;
+    State {
+        page: state.page,
+        out: done.out,
+        scanner,
+        writer,
+    }
 }
 
 // Answers a line: its first letter says which crate or module has the operation.

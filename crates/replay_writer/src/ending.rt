@@ -2,6 +2,7 @@
 use crate::current::Answered;
 use crate::current::Current;
 use crate::told;
+use replay_words::answer::Why;
 use replay_words::front;
 use text_output::Answer;
 use text_output_lent::abandon_by_loan;
@@ -22,17 +23,28 @@ fn ended(
     current.after(next).told(out, end)
 }
 
-pub fn flush(list: &[u32], out: &mut [u8], at: usize, current: Current) -> Answered {
-    ended(flush_by_loan(current.writer), list, out, at, current)
-}
-
-pub fn close(list: &[u32], out: &mut [u8], at: usize, current: Current) -> Answered {
-    ended(close_by_loan(current.writer), list, out, at, current)
-}
-
-// It ends a claim.
-pub fn abandon(list: &[u32], out: &mut [u8], at: usize, current: Current) -> Answered {
+// `W abandon`, which ends a claim.
+fn abandon(list: &[u32], out: &mut [u8], at: usize, current: Current) -> Answered {
     let next = abandon_by_loan(current.writer);
     let end = told::ended(Answer::Done, front::numbers(list, next.kept), out, at);
     Current::of(next).told(out, end)
+}
+
+// The call of a number, where nothing stands after its words: 5 flushes, 6 closes, and 7 abandons.
+pub fn operate(
+    number: usize,
+    is_whole: bool,
+    list: &[u32],
+    out: &mut [u8],
+    at: usize,
+    current: Current,
+) -> Answered {
+    if !is_whole {
+        return current.refuse(out, at, Why::Word);
+    }
+    match number {
+        5 => ended(flush_by_loan(current.writer), list, out, at, current),
+        6 => ended(close_by_loan(current.writer), list, out, at, current),
+        _ => abandon(list, out, at, current),
+    }
 }

@@ -21,26 +21,6 @@ pub use current::Current;
 use replay_words::answer::Why;
 use replay_words::words;
 
-// A call without a number, by its place in the list of `operate`.
-fn operate_bare(
-    number: usize,
-    list: &mut [u32],
-    out: &mut [u8],
-    at: usize,
-    current: Current,
-) -> Answered {
-    match number {
-        5 => ending::flush(list, out, at, current),
-        6 => ending::close(list, out, at, current),
-        7 => ending::abandon(list, out, at, current),
-        8 => opening::plain(list, out, at),
-        9 => opening::crlf(list, out, at),
-        10 => opening::color(list, out, at),
-        11 => opening::bom(list, out, at),
-        _ => current.refuse(out, at, Why::Word),
-    }
-}
-
 // Answers a line whose first letter is W.
 pub fn operate(
     line: &[u8],
@@ -52,7 +32,7 @@ pub fn operate(
 ) -> Answered {
     let found = words::which(
         line,
-        b"W chars\nW bytes\nW places\nW held -\nW held\nW flush\nW close\nW abandon\nW new plain\nW new crlf\nW new color\nW new bom\n",
+        b"W chars\nW bytes\nW places\nW held -\nW held\nW flush\nW close\nW abandon\nW new\n",
     );
     let number = found.number;
     let place = found.place;
@@ -61,11 +41,11 @@ pub fn operate(
         2 => places::first(words::one_number(line, place), list, out, at, current),
         3 => claims::unclaim(place == line.len(), out, at, current),
         4 => claims::claim(words::one_number(line, place), out, at, current),
-        _ => {
-            if place == line.len() {
-                return operate_bare(number, list, out, at, current);
-            }
-            current.refuse(out, at, Why::Word)
+        5..=7 => {
+            let is_whole = place == line.len();
+            ending::operate(number, is_whole, list, out, at, current)
         }
+        8 => opening::operate(line, list, out, at, current),
+        _ => current.refuse(out, at, Why::Word),
     }
 }
