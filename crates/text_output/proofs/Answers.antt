@@ -2,8 +2,9 @@
 -- a contract on these is one on the answer itself. Each variant by itself, by computing.
 --     answer-back    of a flush or a close
 --     wrote-back     of a write
+--     four-fails     a refusal by 4 is no success
 use Prim.Native.Nat.{ℕ}
-use mathlib.Core.Bool.{Bool, true, cond}
+use mathlib.Core.Bool.{Bool, true, false, cond}
 use mathlib.Core.List.{List, [], _∷_}
 use mathlib.Core.Path.{_≡_, refl}
 use lib.Dec.{eqb}
@@ -16,6 +17,7 @@ use Rattle.text_output.specs.declared.Wrote.the-variants.{HandedOut, Ref
 use Rattle.text_output.specs.declared.Answer.{Answer}
 use Rattle.text_output.specs.declared.Answer.the-variants.{Done, Refused as Denied, Abandon as Abandoned}
 use Rattle.text_output.specs.Writer.{wroteNumbers, wroteTells, answerNumbers, answerTells}
+use Rattle.text_output.specs.Write.{succeeds}
 
 -- the reason of these numbers
 abbrev pub errorOf : List ℕ → BasicTextError
@@ -78,3 +80,7 @@ wrote-back (HandedOut k) = refl
 wrote-back (Refused n) = refl
 wrote-back (Abandon n) = refl
 wrote-back (Unwritable e) = unwritable-back e
+
+pub four-fails : (values : List ℕ) → succeeds (4 ∷ values) ≡ false
+four-fails [] = refl
+four-fails (n ∷ ns) = refl

@@ -20,9 +20,9 @@ use Rattle.text_output.specs.declared.State.the-variants.{Ground, Esc, C
 use Rattle.text_output.specs.declared.Mode.{Mode}
 use Rattle.text_output.specs.declared.Mode.the-variants.{Plain, Crlf, Color}
 use Rattle.text_output.specs.declared.TextOutput.{TextOutput}
-use Rattle.text_output.specs.Writer.{Given, Outcome, fresh}
-use Rattle.text_output.specs.Step.{groundStep, escStep, csiStep, stepsOf}
-use Rattle.text_output.specs.Write.{runOf, parts, moreParts, writeRefusal, writeStrOf}
+use Rattle.text_output.specs.Writer.{Given, Outcome, writerWith, fresh}
+use Rattle.text_output.specs.Step.{groundOf, writeStepOf, stepsOf}
+use Rattle.text_output.specs.Write.{runOf, parts, moreParts, writtenBy, writeRefusal, writeStrOf}
 use Rattle.text_output.specs.Close.{done, flushOf, closeOf, abandonOf}
 use Rattle.text_output.specs.Refusals.{filledIn}
 
@@ -68,15 +68,7 @@ tell g places =
     (take (filledIn g) places)
 
 abbrev claiming : TextOutput → ℕ → TextOutput
-claiming w n =
-    record {
-      mode = w .mode;
-      «expect_starter» = w .«expect_starter»;
-      state = w .state;
-      kept = w .kept;
-      held = n;
-      «escape_sequence» = w .«escape_sequence»;
-    }
+claiming w n = writerWith (w .mode) (w .«expect_starter») (w .kept) (record { state = w .state; held = n; escape = w .«escape_sequence» })
 
 -- a call on a writer and its places
 abbrev act : List ℕ → TextOutput → List ℕ → Act → Outcome
@@ -348,7 +340,7 @@ table =
     ∷ []
 
 pub examples : map computed table ≡ map (λ (row : Row). row .expected) table
-unfolding table writeStrOf writeRefusal runOf parts moreParts stepsOf groundStep escStep csiStep flushOf closeOf abandonOf isChar
+unfolding table writeStrOf writeRefusal writtenBy runOf parts moreParts stepsOf writeStepOf groundOf flushOf closeOf abandonOf isChar
     replaceOf reasonOf checkNumbers basicTextStart basicTextEnd starter graphemeExtendNotCgj spacingMarkPlus isPrivateUse
     toIsolate isolateStep isolateOf accepted sized rising nonstarter assigned member rises
 examples = refl

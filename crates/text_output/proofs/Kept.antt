@@ -1,7 +1,6 @@
--- What a writer keeps goes out first with the next success, and stays kept under a refusal. Idea: no step changes the kept count, and a
--- write stores behind the kept places alone.
---     mode-keeps          the steps of a write leave the kept count
---     kept-first          .. in a write of characters
+-- What a writer keeps goes out first with the next success, and stays kept under a refusal. Idea: a write stores behind the kept places
+-- alone.
+--     kept-first          in a write of characters
 --     kept-first-bytes    .. in a write of bytes
 use Prim.Native.Nat.{ℕ, suc, _+_, _≤_, _<_}
 use mathlib.Core.Bool.{false, not, _&&_}
@@ -13,25 +12,15 @@ use lib.ListN.{length, take, set, getD}
 use lib.Seq.{sets}
 use borrow.Author.Tests.{eqb-false}
 use Rattle.unicode.specs.Utf8.{charsOf}
-use Rattle.common.proofs.Kit.{by, split}
+use Rattle.common.proofs.Kit.{split}
 use Rattle.common.proofs.Lists.{take-sets}
-use Rattle.page.specs.Page.{accepted}
 use Rattle.text_utils.specs.Classes.{basicTextStart}
-use Rattle.text_output.specs.declared.Mode.{Mode}
 use Rattle.text_output.specs.declared.TextOutput.{TextOutput}
-use Rattle.text_output.specs.Writer.{Given, sound, keeping, refusedBy, abandonedBy}
+use Rattle.text_output.specs.Writer.{Given, Machine, machineOf, writerWith, refusedBy, abandonedBy}
 use Rattle.text_output.specs.Step.{Stepped, goes, stops}
-use Rattle.text_output.specs.Write.{runIn, endedBy, writeRefusal, writeStrOf, beginsNone, writeOf}
+use Rattle.text_output.specs.Write.{runIn, endedBy, writtenBy, unlessRefused, writeStrRefusal, writeStrOf, writeBytesRefusal, writeOf}
 use Rattle.text_output.specs.Kept.{KeptFirst}
-use Rattle.text_output.proofs.Steps.{StepRefusal, four, six, Holds, mode-holds}
-
--- ---- the steps
--- after some steps the writer keeps k; where one is refused, it is by 4 or 6
-abbrev pub Keeps : ℕ → Stepped → Type 0
-Keeps k = Holds (λ (w : TextOutput). w .kept ≡ k)
-
-pub mode-keeps : (p : List ℕ) (k : ℕ) (m : Mode) (w : TextOutput) (chars : List ℕ) → w .kept ≡ k → Keeps k (runIn m p w chars)
-mode-keeps p k = mode-holds (λ (w : TextOutput). w .kept ≡ k) (λ w g h. h) (λ w s t c e n h. h) p
+use Rattle.text_output.proofs.Steps.{StepRefusal, four, six, Holds, mode-refuses}
 
 refusal-first : {n : List ℕ} → StepRefusal n → 0 < getD n 0 0
 refusal-first four = omega arith
@@ -62,29 +51,33 @@ module _ (w : TextOutput) (places : List ℕ) where
       }
 
   -- how a write ends, by its steps
-  ended-keeps : (p : List ℕ) (s : Stepped) → Keeps (w .kept) s → KeptFirst w places (endedBy p s places)
-  ended-keeps p (goes xs v) h =
-      let k = v .kept + length xs in
-      let after = sets places (v .kept) xs in
-      let same = take-sets (w .kept) xs places (v .kept) (omega (arith, h)) in
+  ended-keeps : (p : List ℕ) (s : Stepped) → Holds (λ (m : Machine). Unit {0}) s → KeptFirst w places (endedBy p w s places)
+  ended-keeps p (goes xs m) h =
+      let k = w .kept + length xs in
+      let after = sets places (w .kept) xs in
+      let same = take-sets (w .kept) xs places (w .kept) (omega arith) in
       split (λ (g : Given). KeptFirst w places (record { given = g; places = after }))
-      (v .«expect_starter» && (ltb 0 k && not (basicTextStart p (getD after 0 0))))
-      (λ e. refused-keeps after (abandonedBy (5 ∷ []) (keeping v false k)) same (omega arith) (omega (arith, h)))
-      (λ e. handed-keeps after k (keeping v false 0) same (omega (arith, h)) refl)
-  ended-keeps p (stops xs v n) h =
-      refused-keeps (sets places (v .kept) xs) _ (take-sets (w .kept) xs places (v .kept) (omega (arith, h .0))) (refusal-first (h .1))
-      (omega (arith, h .0))
+      (w .«expect_starter» && (ltb 0 k && not (basicTextStart p (getD after 0 0))))
+      (λ e. refused-keeps after (abandonedBy (5 ∷ []) (writerWith (w .mode) false k m)) same (omega arith) (omega arith))
+      (λ e. handed-keeps after k (writerWith (w .mode) false 0 m) same (omega arith) refl)
+  ended-keeps p (stops xs m n) h =
+      refused-keeps (sets places (w .kept) xs) _ (take-sets (w .kept) xs places (w .kept) (omega arith)) (refusal-first (h .1)) (omega arith)
+
+  -- refused before its steps, or not
+  unless-keeps : (n : ℕ) (p chars : List ℕ) → KeptFirst w places (unlessRefused n w places (writtenBy w p chars places))
+  unfolding writtenBy
+  unless-keeps n p chars =
+      split (KeptFirst w places) (eqb n 0)
+      (λ e. ended-keeps p (runIn (w .mode) p (machineOf w) chars) (mode-refuses p (w .mode) (machineOf w) chars))
+      (λ e.
+      split (λ (g : Given). KeptFirst w places (record { given = g; places = places })) (eqb n 3)
+      (λ t. refused-keeps places (abandonedBy (3 ∷ []) w) refl (omega arith) (omega arith))
+      (λ t. refused-keeps places (refusedBy n w) refl (omega (arith, eqb-false n 0 e)) (omega arith)))
 
   pub kept-first : (p chars : List ℕ) → KeptFirst w places (writeStrOf w p chars places)
   unfolding writeStrOf
-  kept-first p chars =
-      let n = writeRefusal w p chars (length places) in
-      split (KeptFirst w places) (eqb n 0)
-      (λ e. ended-keeps p (runIn (w .mode) p w chars) (mode-keeps p (w .kept) (w .mode) w chars refl))
-      (λ e. refused-keeps places (refusedBy n w) refl (omega (arith, eqb-false n 0 e)) (omega arith))
+  kept-first p chars = unless-keeps (writeStrRefusal w p chars (length places)) p chars
 
   pub kept-first-bytes : (p bytes : List ℕ) → KeptFirst w places (writeOf w p bytes places .outcome)
   unfolding writeOf
-  kept-first-bytes p bytes =
-      by (sound w && (accepted p && beginsNone bytes)) (λ e. rw e (refused-keeps places _ refl (omega arith) (omega arith)))
-      (λ e. rw e (kept-first p (charsOf bytes)))
+  kept-first-bytes p bytes = unless-keeps (writeBytesRefusal w p bytes (length places)) p (charsOf bytes)

@@ -5,7 +5,7 @@
 --     passes-crlf     .. a CRLF writer
 use Prim.Native.Nat.{ℕ, _+_, _*_, _≤_}
 use mathlib.Core.Bool.{Bool, true, false, _&&_, and-true, and-false}
-use mathlib.Core.List.{List, [], _∷_, _++_}
+use mathlib.Core.List.{List, [], _∷_, _++_, map}
 use mathlib.Core.Path.{_≡_, refl}
 use native.Mathlib.Omega.{arith}
 use lib.Dec.{eqb}
@@ -20,11 +20,10 @@ use Rattle.isolate_unassigned.specs.Isolate.{isolateOf}
 use Rattle.text_output.specs.declared.Ground.the-variants.{Newline}
 use Rattle.text_output.specs.declared.State.the-variants.{Ground as Grounded}
 use Rattle.text_output.specs.declared.Mode.the-variants.{Crlf, Color}
-use Rattle.text_output.specs.declared.TextOutput.{TextOutput}
-use Rattle.text_output.specs.Writer.{fresh, onGround}
+use Rattle.text_output.specs.Writer.{Machine, freshMachine, onGround}
 use Rattle.text_output.specs.Step.{goes}
 use Rattle.text_output.specs.Write.{parts, moreParts, partsOf}
-use Rattle.text_output.specs.Passing.{PassesIn, isolatedParts, crlfOf}
+use Rattle.text_output.specs.Passing.{PassesIn, joinedByCrlf, crlfOf}
 use Rattle.text_output.proofs.Writable.{writable, isolated-goes}
 use Rattle.text_output.proofs.Passing.{startsWell, endsWell, starts-isolated, isolated-fits, passes-by, passes-as-one}
 
@@ -105,17 +104,21 @@ length-parts (line e r) = omega (arith, length-parts r)
 length-parts (more e r) = omega (arith, length-parts r)
 
 -- ---- what goes out
+-- parts isolated, each alone, and joined
+abbrev isolated : List ℕ → List (List ℕ) → List ℕ
+isolated p ps = joinedByCrlf (map (isolateOf p) ps)
+
 module _ (p : List ℕ) where
   -- each part isolated takes three times its length at most, and 0D 0A less than 0A has room for
   parts-fit : (part : List ℕ) (rest : List (List ℕ)) →
-      length (isolatedParts p (part ∷ rest)) ≤ 3 * (length part + lengthBehind rest)
+      length (isolated p (part ∷ rest)) ≤ 3 * (length part + lengthBehind rest)
   parts-fit part [] = omega (arith, isolated-fits p part)
   parts-fit part (next ∷ rest) =
       omega (
         arith,
         isolated-fits p part,
         parts-fit next rest,
-        length-append (isolateOf p part) (0x0D ∷ 0x0A ∷ isolatedParts p (next ∷ rest)),
+        length-append (isolateOf p part) (0x0D ∷ 0x0A ∷ isolated p (next ∷ rest)),
       )
 
   -- two lists that start well joined
@@ -130,20 +133,20 @@ module _ (p : List ℕ) where
 
   -- parts whose first starts well start well isolated
   parts-start : accepted p ≡ true → (part : List ℕ) (rest : List (List ℕ)) → startsWell p part ≡ true →
-      startsWell p (isolatedParts p (part ∷ rest)) ≡ true
+      startsWell p (isolated p (part ∷ rest)) ≡ true
   parts-start a part [] s = starts-isolated p a part s
   parts-start a part (next ∷ rest) s = starts-append (isolateOf p part) _ (starts-isolated p a part s) start-return
 
   -- from after a newline, the steps of parts of writable characters lead there again where the last part is empty
-  parts-go : (part : List ℕ) (rest : List (List ℕ)) (w : TextOutput) → w .state ≡ Grounded Newline → w .held ≡ 0 →
+  parts-go : (part : List ℕ) (rest : List (List ℕ)) (m : Machine) → m .state ≡ Grounded Newline → m .held ≡ 0 →
       all writable part ≡ true → allParts writable rest ≡ true → lastEmpty (empty part) rest ≡ true →
-      partsOf p w (part ∷ rest) ≡ goes (isolatedParts p (part ∷ rest)) (onGround w Newline)
+      partsOf Crlf p m (part ∷ rest) ≡ goes (isolated p (part ∷ rest)) (onGround m Newline)
   unfolding moreParts isolateOf
-  parts-go [] [] w s n f g l = rw (isolated-goes p [] w Newline s n f)
-  parts-go (c ∷ part) [] w s n f g l = never l
-  parts-go part (next ∷ rest) w s n f g l =
+  parts-go [] [] m s n f g l = rw (isolated-goes Crlf p [] m Newline s n f)
+  parts-go (c ∷ part) [] m s n f g l = never l
+  parts-go part (next ∷ rest) m s n f g l =
       let k = both-true (all writable next) (allParts writable rest) g in
-      rw (isolated-goes p part w Newline s n f, parts-go next rest (onGround w Newline) refl refl (k .0) (k .1) l)
+      rw (isolated-goes Crlf p part m Newline s n f, parts-go next rest (onGround m Newline) refl refl (k .0) (k .1) l)
 
 -- ---- CRLF
 pub passes-crlf : (p : List ℕ) → accepted p ≡ true → (q : List ℕ) →
@@ -152,7 +155,7 @@ passes-crlf p a q c f s l =
     let d = split-parts q in
     let k = parts-pass writable (d .parted) f in
     rw (d .is)
-    (passes-by Crlf p q (isolatedParts p (d .first ∷ d .rest)) a c
+    (passes-by Crlf p q (isolated p (d .first ∷ d .rest)) a c
     (parts-start p a (d .first) (d .rest) (first-starts p (d .parted) s))
     (omega (arith, parts-fit p (d .first) (d .rest), length-parts (d .parted)))
-    (rw (d .is) (parts-go p (d .first) (d .rest) (fresh Crlf) refl refl (k .0) (k .1) (rw (ends-empty (d .parted) true) at l))))
+    (rw (d .is) (parts-go p (d .first) (d .rest) freshMachine refl refl (k .0) (k .1) (rw (ends-empty (d .parted) true) at l))))

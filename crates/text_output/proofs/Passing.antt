@@ -5,7 +5,7 @@
 --     endsWell             the last character is 0A; b where there is none
 --     starts-isolated      a run that starts well starts well isolated
 --     ends-isolated        a run that ends well ends well isolated
---     ends-on-newline      after characters that end well a writer is after a newline
+--     ends-on-newline      after characters that end well a newline stands last
 --     lines-go             from after a newline, the steps of one run of writable characters that end well lead there again
 --     write-runs           a write that 9, 2, 1 and 8 let through ends as its steps led
 --     Handed, hands-out    what stands in the first places is handed out if it starts well
@@ -43,12 +43,12 @@ use Rattle.text_output.specs.declared.State.the-variants.{Ground as Grou
 use Rattle.text_output.specs.declared.Mode.{Mode}
 use Rattle.text_output.specs.declared.Mode.the-variants.{Plain}
 use Rattle.text_output.specs.declared.TextOutput.{TextOutput}
-use Rattle.text_output.specs.Writer.{Given, fresh, sound, onGround}
-use Rattle.text_output.specs.Step.{goes}
-use Rattle.text_output.specs.Write.{runOf, runIn, handOut, endedBy, placesForWrite, writeRefusal, writeStrOf}
+use Rattle.text_output.specs.Writer.{Given, Machine, machineOf, freshMachine, fresh, sound, onGround}
+use Rattle.text_output.specs.Step.{goes, groundOf, groundAfter}
+use Rattle.text_output.specs.Write.{runOf, runIn, handOut, endedBy, writtenBy, placesForWrite, writeRefusal, writeStrOf}
 use Rattle.text_output.specs.Close.{closeOf}
 use Rattle.text_output.specs.Passing.{PassesIn}
-use Rattle.text_output.proofs.Writable.{writable, groundOf, groundAfter, isolated-goes}
+use Rattle.text_output.proofs.Writable.{writable, isolated-goes}
 
 -- ---- how a run starts and ends
 -- the first is a start, if there is one
@@ -95,27 +95,27 @@ ends-on-newline [] g b f h = f h
 ends-on-newline (c ∷ cs) g b f h = ends-on-newline cs (groundOf c) (eqb c 0x0A) (λ e. rw e) h
 
 -- ---- the write
-pub lines-go : (p : List ℕ) → accepted p ≡ true → (cs : List ℕ) (w : TextOutput) → w .state ≡ Grounded Newline → w .held ≡ 0 →
-    all writable cs ≡ true → endsWell true cs ≡ true → runOf p w cs ≡ goes (isolateOf p cs) (onGround w Newline)
-lines-go p a cs w s n f l =
-    rw (ends-on-newline (isolateOf p cs) Newline true (λ t. refl) (ends-isolated p a cs l)) at (isolated-goes p cs w Newline s n f)
+pub lines-go : (mode : Mode) (p : List ℕ) → accepted p ≡ true → (cs : List ℕ) (m : Machine) → m .state ≡ Grounded Newline → m .held ≡ 0 →
+    all writable cs ≡ true → endsWell true cs ≡ true → runOf mode p m cs ≡ goes (isolateOf p cs) (onGround m Newline)
+lines-go mode p a cs m s n f l =
+    rw (ends-on-newline (isolateOf p cs) Newline true (λ t. refl) (ends-isolated p a cs l)) at (isolated-goes mode p cs m Newline s n f)
 
-pub write-runs : (w : TextOutput) (p cs places : List ℕ) → sound w ≡ true → accepted p ≡ true → areChars cs ≡ true →
-    placesForWrite w (length cs) ≤ length places → writeStrOf w p cs places ≡ endedBy p (runIn (w .mode) p w cs) places
-unfolding writeStrOf writeRefusal
+pub write-runs : (w : TextOutput) (p cs places : List ℕ) → sound (machineOf w) ≡ true → accepted p ≡ true → areChars cs ≡ true →
+    placesForWrite w (length cs) ≤ length places → writeStrOf w p cs places ≡ endedBy p w (runIn (w .mode) p (machineOf w) cs) places
+unfolding writeStrOf writeRefusal writtenBy
 write-runs w p cs places s a c room = rw (s, a, c, le-ltb (length places) (placesForWrite w (length cs)) room)
 
--- an answer that hands out k characters from a writer
-pub record Handed (w : TextOutput) (k : ℕ) (answer : Given) : Type 0 where
+-- an answer that hands out k characters, where the steps left m
+pub record Handed (m : Machine) (k : ℕ) (answer : Given) : Type 0 where
   pub number : answer .numbers ≡ 0 ∷ k ∷ []
   pub stays : answer .abandon ≡ false
-  pub state : answer .next .state ≡ w .state
-  pub held : answer .next .held ≡ w .held
+  pub state : answer .next .state ≡ m .state
+  pub held : answer .next .held ≡ m .held
 
-pub hands-out : (p : List ℕ) (w : TextOutput) (xs rest : List ℕ) → startsWell p xs ≡ true →
-    Handed w (length xs) (handOut p w (length xs) (xs ++ rest))
-hands-out p w [] rest h = simp and-false (record { number = refl; stays = refl; state = refl; held = refl })
-hands-out p w (x ∷ xs) rest h = simp (h, and-false) (record { number = refl; stays = refl; state = refl; held = refl })
+pub hands-out : (p : List ℕ) (mode : Mode) (expect : Bool) (m : Machine) (xs rest : List ℕ) → startsWell p xs ≡ true →
+    Handed m (length xs) (handOut p mode expect m (length xs) (xs ++ rest))
+hands-out p mode expect m [] rest h = simp and-false (record { number = refl; stays = refl; state = refl; held = refl })
+hands-out p mode expect m (x ∷ xs) rest h = simp (h, and-false) (record { number = refl; stays = refl; state = refl; held = refl })
 
 -- ---- the close
 pub record Closes (answer : Given) : Type 0 where
@@ -132,12 +132,12 @@ isolated-fits p [] = omega (arith, length-isolate p [])
 isolated-fits p (c ∷ cs) = omega (arith, length-isolate p (c ∷ cs))
 
 pub passes-by : (m : Mode) (p q xs : List ℕ) → accepted p ≡ true → areChars q ≡ true → startsWell p xs ≡ true →
-    length xs ≤ 3 * length q → runIn m p (fresh m) q ≡ goes xs (fresh m) → PassesIn m p q xs
+    length xs ≤ 3 * length q → runIn m p freshMachine q ≡ goes xs freshMachine → PassesIn m p q xs
 passes-by m p q xs a c s fits go places room wrote w closed d =
     let rest = drop (length xs) places in
     let runs = write-runs (fresh m) p q places refl a c room in
     let stored = sets-first xs places (omega arith) in
-    let handed = hands-out p (fresh m) xs rest s in
+    let handed = hands-out p m true freshMachine xs rest s in
     rw (d, w)
     (record {
       number = rw (runs, go, zero-add, stored) (handed .number);
@@ -150,9 +150,9 @@ passes-by m p q xs a c s fits go places room wrote w closed d =
 -- a mode whose run is one run, isolated as a whole
 pub passes-as-one : (m : Mode) (p : List ℕ) → accepted p ≡ true → (q : List ℕ) →
     areChars q ≡ true → all writable q ≡ true → startsWell p q ≡ true → endsWell true q ≡ true →
-    runIn m p (fresh m) q ≡ runOf p (fresh m) q → PassesIn m p q (isolateOf p q)
+    runIn m p freshMachine q ≡ runOf m p freshMachine q → PassesIn m p q (isolateOf p q)
 passes-as-one m p a q c f s l one =
-    passes-by m p q (isolateOf p q) a c (starts-isolated p a q s) (isolated-fits p q) (one ∙ lines-go p a q (fresh m) refl refl f l)
+    passes-by m p q (isolateOf p q) a c (starts-isolated p a q s) (isolated-fits p q) (one ∙ lines-go m p a q freshMachine refl refl f l)
 
 pub passes-plain : (p : List ℕ) → accepted p ≡ true → (q : List ℕ) →
     areChars q ≡ true → all writable q ≡ true → startsWell p q ≡ true → endsWell true q ≡ true → PassesIn Plain p q (isolateOf p q)

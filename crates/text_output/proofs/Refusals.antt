@@ -6,14 +6,14 @@
 use Prim.Native.Nat.{ℕ, suc, _+_, _≤_}
 use mathlib.Core.Bool.{true, false, not, _&&_}
 use mathlib.Core.List.{List, [], _∷_}
-use mathlib.Core.Path.{_≡_, refl, _∙_}
+use mathlib.Core.Path.{_≡_, refl, sym, _∙_}
 use native.Mathlib.Omega.{arith}
 use lib.Dec.{eqb, ltb}
 use lib.ListN.{length, drop, set, getD}
 use lib.Seq.{sets}
 use Rattle.unicode.specs.Chars.{areChars}
 use Rattle.unicode.specs.Utf8.{charsOf}
-use Rattle.common.proofs.Kit.{never, by, split, both-true}
+use Rattle.common.proofs.Kit.{never, split, both-true}
 use Rattle.common.proofs.Lists.{drop-sets}
 use Rattle.page.specs.Page.{accepted}
 use Rattle.text_utils.specs.Classes.{basicTextStart}
@@ -21,12 +21,13 @@ use Rattle.text_output.specs.declared.Ground.the-variants.{Newline, ZwjO
 use Rattle.text_output.specs.declared.State.{State}
 use Rattle.text_output.specs.declared.State.the-variants.{Ground, Esc, Csi}
 use Rattle.text_output.specs.declared.TextOutput.{TextOutput}
-use Rattle.text_output.specs.Writer.{Given, sound, keeping, refusedBy, abandonedBy}
+use Rattle.text_output.specs.Writer.{Given, Machine, machineOf, writerWith, sound, refusedBy, abandonedBy}
 use Rattle.text_output.specs.Step.{Stepped, goes, stops}
-use Rattle.text_output.specs.Write.{runIn, endedBy, placesForWrite, writeRefusal, writeStrOf, beginsNone, writeOf}
+use Rattle.text_output.specs.Write.{runIn, endedBy, writtenBy, inputRefusal, thenRoom, writeRefusal, unlessRefused, charsRefusal, writeStrRefusal, writeStrOf, bytesRefusal, writeBytesRefusal, writeOf}
 use Rattle.text_output.specs.Close.{expecting, flushIn, flushOf, closeIn, closeOf}
 use Rattle.text_output.specs.Refusals.{Call, write, flush, close, refusalIn, filledIn, oneOf, isClose, isQuiet, isOther, isSparing, Leaves, SecondCloses}
-use Rattle.text_output.proofs.Steps.{StepRefusal, four, six, Holds, mode-holds}
+use Rattle.text_output.proofs.Steps.{StepRefusal, four, six, Holds, mode-refuses}
+use Rattle.text_output.proofs.Answers.{four-fails}
 
 -- ---- the three kinds of answer
 module _ (call : Call) (w : TextOutput) (places : List ℕ) where
@@ -95,7 +96,7 @@ module _ (w : TextOutput) (places : List ℕ) where
   pub flush-leaves : Leaves flush w places (record { given = flushOf w; places = places })
   unfolding flushOf
   flush-leaves =
-      split (λ (g : Given). Leaves flush w places (record { given = g; places = places })) (sound w) (λ e. flush-in (w .state))
+      split (λ (g : Given). Leaves flush w places (record { given = g; places = places })) (sound (machineOf w)) (λ e. flush-in (w .state))
       (λ e. quiet flush w places 9 refl refl refl)
 
   closed-by : (n : ℕ) → isQuiet close n ≡ false → isSparing close n ≡ false → eqb n 5 ≡ false →
@@ -114,7 +115,7 @@ module _ (w : TextOutput) (places : List ℕ) where
   pub close-leaves : Leaves close w places (record { given = closeOf w; places = places })
   unfolding closeOf
   close-leaves =
-      split (λ (g : Given). Leaves close w places (record { given = g; places = places })) (sound w) (λ e. close-in (w .state))
+      split (λ (g : Given). Leaves close w places (record { given = g; places = places })) (sound (machineOf w)) (λ e. close-in (w .state))
       (λ e. quiet close w places 9 refl refl refl)
 
 -- ---- a second close
@@ -130,63 +131,70 @@ second-in w Csi e = refl
 pub second-closes : (w : TextOutput) → SecondCloses w
 unfolding closeOf
 second-closes w =
-    split (λ (g : Given). oneOf (11 ∷ 12 ∷ 13 ∷ []) (refusalIn g) ≡ true → closeOf (g .next) .numbers ≡ []) (sound w)
+    split (λ (g : Given). oneOf (11 ∷ 12 ∷ 13 ∷ []) (refusalIn g) ≡ true → closeOf (g .next) .numbers ≡ []) (sound (machineOf w))
     (λ s. second-in w (w .state)) (λ s e. never e)
 
 -- ---- a write
--- a number that speaks of no change
-abbrev LeavesAll : ℕ → Type 0
-LeavesAll n = (isOther write n ≡ false) × (eqb n 5 ≡ false)
+-- a number by which a write is refused before its steps, other than 3, speaks of no change; 3 does
+abbrev IsInput : ℕ → Type 0
+IsInput n = (eqb n 0 ≡ false) → (eqb n 3 ≡ false) → (isOther write n ≡ false) × (eqb n 5 ≡ false)
 
--- 9, 2, 1 and 8 are such
-refusal-quiet : (w : TextOutput) (p chars : List ℕ) (room : ℕ) → LeavesAll (writeRefusal w p chars room)
+room-input : (n need room : ℕ) → IsInput n → IsInput (thenRoom n need room)
+room-input n need room h =
+    split IsInput (eqb n 0) (λ z. split IsInput (ltb room need) (λ r a b. (refl, refl)) (λ r a b. never (sym a))) (λ z. h)
+
+-- 9, 2 and 8 are such, and 1 is
+refusal-quiet : (w : TextOutput) (p : List ℕ) (values n room : ℕ) → IsInput values → IsInput (writeRefusal w p values n room)
 unfolding writeRefusal
-refusal-quiet w p chars room =
-    split LeavesAll (not (sound w)) (λ e. (refl, refl))
-    (λ e.
-    split LeavesAll (not (accepted p)) (λ a. (refl, refl))
-    (λ a.
-    split LeavesAll (not (areChars chars)) (λ c. (refl, refl))
-    (λ c. split LeavesAll (ltb room (placesForWrite w (length chars))) (λ r. (refl, refl)) (λ r. (refl, refl)))))
+refusal-quiet w p values n room h =
+    room-input (inputRefusal w p values) _ room
+    (split IsInput (not (sound (machineOf w))) (λ e a b. (refl, refl)) (λ e. split IsInput (not (accepted p)) (λ a c d. (refl, refl)) (λ a. h)))
 
 module _ (w : TextOutput) (places : List ℕ) where
   -- a refused step
   stopped-leaves : {n : List ℕ} → StepRefusal n → (v : TextOutput) (after : List ℕ) → v .«expect_starter» ≡ w .«expect_starter» →
       drop (v .kept) after ≡ drop (v .kept) places → Leaves write w places (record { given = abandonedBy n v; places = after })
-  stopped-leaves four v after h past =
-      loud write w places 4 _ v after refl (λ q. h) (λ q. never q) (λ q. never q) (λ q. never q) past
+  stopped-leaves (four {reason}) v after h past =
+      loud write w places 4 reason v after refl (λ q. h) (λ q. never q) (λ q. never q) (λ q. never q) (rw (four-fails reason) past)
   stopped-leaves six v after h past =
       loud write w places 6 [] v after refl (λ q. h) (λ q. never q) (λ q. never q) (λ q. never q) past
 
   -- how a write ends, by its steps
-  ended-leaves : (p : List ℕ) (s : Stepped) → Holds (λ (v : TextOutput). v .«expect_starter» ≡ w .«expect_starter») s →
-      Leaves write w places (endedBy p s places)
-  ended-leaves p (goes xs v) h =
-      let k = v .kept + length xs in
-      let after = sets places (v .kept) xs in
-      let past = drop-sets k places (v .kept) xs (omega arith) in
+  ended-leaves : (p : List ℕ) (s : Stepped) → Holds (λ (m : Machine). Unit {0}) s → Leaves write w places (endedBy p w s places)
+  ended-leaves p (goes xs m) h =
+      let k = w .kept + length xs in
+      let after = sets places (w .kept) xs in
+      let past = drop-sets k places (w .kept) xs (omega arith) in
       split (λ (g : Given). Leaves write w places (record { given = g; places = after }))
-      (v .«expect_starter» && (ltb 0 k && not (basicTextStart p (getD after 0 0))))
-      (λ e. loud write w places 5 [] (keeping v false k) after refl (λ q. never q) (λ q. refl) (λ q. never q) (λ q. never q) past)
-      (λ e. handed write w places (0 ∷ k ∷ []) (keeping v false 0) after refl (λ q. never q) past)
-  ended-leaves p (stops xs v n) h =
-      let k = v .kept + length xs in
-      stopped-leaves (h .1) (keeping v (v .«expect_starter») k) _ (h .0) (drop-sets k places (v .kept) xs (omega arith))
+      (w .«expect_starter» && (ltb 0 k && not (basicTextStart p (getD after 0 0))))
+      (λ e. loud write w places 5 [] (writerWith (w .mode) false k m) after refl (λ q. never q) (λ q. refl) (λ q. never q) (λ q. never q) past)
+      (λ e. handed write w places (0 ∷ k ∷ []) (writerWith (w .mode) false 0 m) after refl (λ q. never q) past)
+  ended-leaves p (stops xs m n) h =
+      let k = w .kept + length xs in
+      stopped-leaves (h .1) (writerWith (w .mode) (w .«expect_starter») k m) _ refl (drop-sets k places (w .kept) xs (omega arith))
+
+  -- refused before its steps, or not
+  unless-leaves : (n : ℕ) (p chars : List ℕ) → IsInput n → Leaves write w places (unlessRefused n w places (writtenBy w p chars places))
+  unfolding writtenBy
+  unless-leaves n p chars q =
+      split (Leaves write w places) (eqb n 0)
+      (λ e. ended-leaves p (runIn (w .mode) p (machineOf w) chars) (mode-refuses p (w .mode) (machineOf w) chars))
+      (λ e.
+      split (λ (g : Given). Leaves write w places (record { given = g; places = places })) (eqb n 3)
+      (λ t. loud write w places 3 [] w places refl (λ r. refl) (λ r. never r) (λ r. never r) (λ r. (refl, refl)) refl)
+      (λ t. quiet write w places n (q e t .0) (q e t .1) refl))
 
   pub write-leaves : (p chars : List ℕ) → Leaves write w places (writeStrOf w p chars places)
   unfolding writeStrOf
   write-leaves p chars =
-      let n = writeRefusal w p chars (length places) in
-      let q = refusal-quiet w p chars (length places) in
-      split (Leaves write w places) (eqb n 0)
-      (λ e.
-      ended-leaves p (runIn (w .mode) p w chars)
-      (mode-holds (λ (v : TextOutput). v .«expect_starter» ≡ w .«expect_starter») (λ v g h. h) (λ v s t c f m h. h) p (w .mode) w chars refl))
-      (λ e. quiet write w places n (q .0) (q .1) refl)
+      unless-leaves (writeStrRefusal w p chars (length places)) p chars
+      (refusal-quiet w p (charsRefusal chars) (length chars) (length places)
+      (split IsInput (areChars chars) (λ e a b. never (sym a)) (λ e a b. (refl, refl))))
 
   pub write-bytes-leaves : (p bytes : List ℕ) → Leaves write w places (writeOf w p bytes places .outcome)
   unfolding writeOf
   write-bytes-leaves p bytes =
-      by (sound w && (accepted p && beginsNone bytes))
-      (λ e. rw e (loud write w places 3 [] w places refl (λ q. refl) (λ q. never q) (λ q. never q) (λ q. (refl, refl)) refl))
-      (λ e. rw e (write-leaves p (charsOf bytes)))
+      let cs = charsOf bytes in
+      unless-leaves (writeBytesRefusal w p bytes (length places)) p cs
+      (refusal-quiet w p (bytesRefusal (length bytes) (length cs)) (length cs) (length places)
+      (split IsInput (ltb 0 (length bytes) && eqb (length cs) 0) (λ e a b. never (sym b)) (λ e a b. never (sym a))))

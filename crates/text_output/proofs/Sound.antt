@@ -15,56 +15,63 @@ use lib.Seq.{sets}
 use borrow.Author.Tests.{eqb-true, leb-true, le-leb}
 use Rattle.unicode.specs.Utf8.{charsOf}
 use Rattle.common.proofs.Kit.{split, both-true, both}
-use Rattle.page.specs.Page.{accepted}
 use Rattle.text_utils.specs.Classes.{basicTextStart}
 use Rattle.text_output.specs.declared.Ground.the-variants.{Newline, ZwjOrPrepend, Other}
 use Rattle.text_output.specs.declared.State.{State}
 use Rattle.text_output.specs.declared.State.the-variants.{Ground, Esc, Csi}
 use Rattle.text_output.specs.declared.TextOutput.{TextOutput}
-use Rattle.text_output.specs.Writer.{Given, Outcome, BytesOutcome, escapeLimit, heldIn, sound}
+use Rattle.text_output.specs.Writer.{Given, Outcome, BytesOutcome, Machine, machineOf, escapeLimit, heldIn, sound}
 use Rattle.text_output.specs.Step.{Stepped, goes, stops, holding}
-use Rattle.text_output.specs.Write.{runIn, endedBy, writeRefusal, writeStrOf, beginsNone, writeOf}
+use Rattle.text_output.specs.Write.{runIn, endedBy, writtenBy, unlessRefused, writeStrRefusal, writeStrOf, writeBytesRefusal, writeOf}
 use Rattle.text_output.specs.Close.{flushIn, flushOf, closeIn, closeOf, abandonOf}
 use Rattle.text_output.proofs.Steps.{Grows, opened, begun, longer, Holds, mode-holds}
 
 -- the record is sound
 abbrev pub IsSound : TextOutput → Type 0
-IsSound w = sound w ≡ true
+IsSound w = sound (machineOf w) ≡ true
 
 -- ---- the steps
 -- one character more is held
-hold-sound : (w : TextOutput) (s t : State) (c : ℕ) → heldIn s (w .held) ≡ true → Grows s (w .held) t → IsSound (holding w t c)
-hold-sound w (Ground g) Esc c h opened = rw (eqb-true (w .held) 0 h)
-hold-sound w Esc Csi c h begun = rw (eqb-true (w .held) 1 h)
-hold-sound w Csi Csi c h (longer low) =
-    both (le-leb (w .held + 1) escapeLimit (omega (arith, low))) (le-leb 2 (w .held + 1) (omega (arith, leb-true 2 (w .held) h)))
+hold-sound : (m : Machine) (s t : State) (c : ℕ) → heldIn s (m .held) ≡ true → Grows s (m .held) t → sound (holding m t c) ≡ true
+hold-sound m (Ground g) Esc c h opened = rw (eqb-true (m .held) 0 h)
+hold-sound m Esc Csi c h begun = rw (eqb-true (m .held) 1 h)
+hold-sound m Csi Csi c h (longer low) =
+    both (le-leb (m .held + 1) escapeLimit (omega (arith, low))) (le-leb 2 (m .held + 1) (omega (arith, leb-true 2 (m .held) h)))
 
-held-by : (w : TextOutput) (s : State) → w .state ≡ s → IsSound w → heldIn s (w .held) ≡ true
-held-by w s e h = rw e at (both-true (leb (w .held) escapeLimit) (heldIn (w .state) (w .held)) h .1)
+held-by : (m : Machine) (s : State) → m .state ≡ s → sound m ≡ true → heldIn s (m .held) ≡ true
+held-by m s e h = rw e at (both-true (leb (m .held) escapeLimit) (heldIn (m .state) (m .held)) h .1)
 
 -- ---- a write
 module _ (w : TextOutput) (h : IsSound w) where
-  ended-sound : (p : List ℕ) (s : Stepped) (places : List ℕ) → Holds IsSound s → IsSound (endedBy p s places .given .next)
-  ended-sound p (goes xs v) places s =
-      let after = sets places (v .kept) xs in
+  ended-sound : (p : List ℕ) (s : Stepped) (places : List ℕ) → Holds (λ (m : Machine). sound m ≡ true) s →
+      IsSound (endedBy p w s places .given .next)
+  ended-sound p (goes xs m) places s =
+      let after = sets places (w .kept) xs in
       split (λ (g : Given). IsSound (g .next))
-      (v .«expect_starter» && (ltb 0 (v .kept + length xs) && not (basicTextStart p (getD after 0 0)))) (λ e. refl) (λ e. s)
-  ended-sound p (stops xs v n) places s = refl
+      (w .«expect_starter» && (ltb 0 (w .kept + length xs) && not (basicTextStart p (getD after 0 0)))) (λ e. refl) (λ e. s)
+  ended-sound p (stops xs m n) places s = refl
+
+  written-sound : (p chars places : List ℕ) → IsSound (writtenBy w p chars places .given .next)
+  unfolding writtenBy
+  written-sound p chars places =
+      ended-sound p (runIn (w .mode) p (machineOf w) chars) places
+      (mode-holds (λ (m : Machine). sound m ≡ true) (λ m g s. refl) (λ m s t c e g i. hold-sound m s t c (held-by m s e i) g) p (w .mode) (machineOf w) chars h)
+
+  -- refused before its steps, or not
+  unless-sound : (n : ℕ) (places : List ℕ) (o : Outcome) → IsSound (o .given .next) → IsSound (unlessRefused n w places o .given .next)
+  unless-sound n places o s =
+      split (λ (r : Outcome). IsSound (r .given .next)) (eqb n 0) (λ e. s)
+      (λ e. split (λ (g : Given). IsSound (g .next)) (eqb n 3) (λ t. refl) (λ t. h))
 
   pub write-sound : (p chars places : List ℕ) → IsSound (writeStrOf w p chars places .given .next)
   unfolding writeStrOf
   write-sound p chars places =
-      split (λ (o : Outcome). IsSound (o .given .next)) (eqb (writeRefusal w p chars (length places)) 0)
-      (λ e.
-      ended-sound p (runIn (w .mode) p w chars) places
-      (mode-holds IsSound (λ v g s. refl) (λ v s t c e g i. hold-sound v s t c (held-by v s e i) g) p (w .mode) w chars h))
-      (λ e. h)
+      unless-sound (writeStrRefusal w p chars (length places)) places (writtenBy w p chars places) (written-sound p chars places)
 
   pub write-bytes-sound : (p bytes places : List ℕ) → IsSound (writeOf w p bytes places .outcome .given .next)
   unfolding writeOf
   write-bytes-sound p bytes places =
-      split (λ (o : BytesOutcome). IsSound (o .outcome .given .next)) (sound w && (accepted p && beginsNone bytes)) (λ e. refl)
-      (λ e. write-sound p (charsOf bytes) places)
+      unless-sound (writeBytesRefusal w p bytes (length places)) places (writtenBy w p (charsOf bytes) places) (written-sound p (charsOf bytes) places)
 
   -- ---- a flush and a close
   flush-in : (s : State) → IsSound (flushIn s w .next)
@@ -76,7 +83,7 @@ module _ (w : TextOutput) (h : IsSound w) where
 
   pub flush-sound : IsSound (flushOf w .next)
   unfolding flushOf
-  flush-sound = split (λ (g : Given). IsSound (g .next)) (sound w) (λ e. flush-in (w .state)) (λ e. h)
+  flush-sound = split (λ (g : Given). IsSound (g .next)) (sound (machineOf w)) (λ e. flush-in (w .state)) (λ e. h)
 
   close-in : (s : State) → IsSound (closeIn s w .next)
   close-in (Ground Newline) = h
@@ -87,7 +94,7 @@ module _ (w : TextOutput) (h : IsSound w) where
 
   pub close-sound : IsSound (closeOf w .next)
   unfolding closeOf
-  close-sound = split (λ (g : Given). IsSound (g .next)) (sound w) (λ e. close-in (w .state)) (λ e. h)
+  close-sound = split (λ (g : Given). IsSound (g .next)) (sound (machineOf w)) (λ e. close-in (w .state)) (λ e. h)
 
 pub abandon-sound : (w : TextOutput) → IsSound (abandonOf w)
 unfolding abandonOf

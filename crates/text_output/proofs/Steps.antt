@@ -1,9 +1,10 @@
--- What every step leaves true of the writer, the steps of a write leave true, and a refused one is refused by 4 or 6. Idea: a step puts
--- the writer outside an escape, or has it hold one character more, or leaves it.
+-- What every step leaves true, the steps of a write leave true, and a refused one is refused by 4 or 6. Idea: a step leads outside an
+-- escape, or holds one character more, or changes nothing.
 --     StepRefusal    the numbers of a refused step
 --     Grows          the states in which one character more is held
 --     Holds          what some steps leave true
 --     mode-holds     .. the steps of a write, in any mode
+--     mode-refuses   a refused one of them is refused by 4 or 6
 use Prim.Native.Nat.{ℕ, _<_}
 use mathlib.Core.List.{List, [], _∷_}
 use mathlib.Core.Path.{_≡_, refl}
@@ -15,9 +16,9 @@ use Rattle.text_output.specs.declared.State.{State}
 use Rattle.text_output.specs.declared.State.the-variants.{Ground as Grounded, Esc, Csi}
 use Rattle.text_output.specs.declared.Mode.{Mode}
 use Rattle.text_output.specs.declared.Mode.the-variants.{Plain, Crlf, Color}
-use Rattle.text_output.specs.declared.TextOutput.{TextOutput}
-use Rattle.text_output.specs.Writer.{escapeLimit, onGround}
-use Rattle.text_output.specs.Step.{Stepped, goes, stops, behind, andThen, holding, isColor, groundStep, escStep, inSequence, csiStep, stepIn, writeStepOf, stepsOf}
+use Rattle.text_output.specs.declared.Step.{Step}
+use Rattle.text_output.specs.Writer.{Machine, escapeLimit, onGround}
+use Rattle.text_output.specs.Step.{Stepped, goes, stops, behind, andThen, holding, isColor, inSequence, askedIn, doneBy, writeStepOf, stepsOf}
 use Rattle.text_output.specs.Write.{runOf, parts, putCrlf, moreParts, partsOf, runIn}
 
 -- by 4 with the reason's number and values, or by 6
@@ -31,74 +32,85 @@ pub data Grows : State → ℕ → State → Type 0 where
   begun : {held : ℕ} → Grows Esc held Csi
   longer : {held : ℕ} → held < escapeLimit → Grows Csi held Csi
 
--- a fact of the writer after some steps, and where one is refused, its numbers
-abbrev pub Holds : (TextOutput → Type 0) → Stepped → Type 0
-Holds I (goes xs w) = I w
-Holds I (stops xs w n) = I w × StepRefusal n
+-- a fact of what some steps leave, and where one is refused, its numbers
+abbrev pub Holds : (Machine → Type 0) → Stepped → Type 0
+Holds I (goes xs m) = I m
+Holds I (stops xs m n) = I m × StepRefusal n
 
-module _ (I : TextOutput → Type 0) (ground : (w : TextOutput) (g : Ground) → I w → I (onGround w g))
-    (hold : (w : TextOutput) (s t : State) (c : ℕ) → w .state ≡ s → Grows s (w .held) t → I w → I (holding w t c)) where
+module _ (I : Machine → Type 0) (ground : (m : Machine) (g : Ground) → I m → I (onGround m g))
+    (hold : (m : Machine) (s t : State) (c : ℕ) → m .state ≡ s → Grows s (m .held) t → I m → I (holding m t c)) (mode : Mode) where
   -- ---- one step
-  -- any character in any state
-  step-holds : (w : TextOutput) (s : State) (error : List ℕ) (c : ℕ) → w .state ≡ s → I w → Holds I (stepIn s w error c)
-  unfolding groundStep escStep csiStep
-  step-holds w (Grounded g) error c e h =
-      split (Holds I) (eqb c 0x1B)
-      (λ q. split (Holds I) (isColor (w .mode)) (λ k. hold w (Grounded g) Esc c e opened h) (λ k. (h, four)))
+  -- what is asked for, done
+  asked-holds : (m : Machine) (s : State) (c : ℕ) → m .state ≡ s → I m → Holds I (doneBy (askedIn s mode (m .held) c) m c)
+  asked-holds m (Grounded g) c e h =
+      split (λ (a : Step). Holds I (doneBy a m c)) (eqb c 0x1B)
+      (λ q. split (λ (a : Step). Holds I (doneBy a m c)) (isColor mode) (λ k. hold m (Grounded g) Esc c e opened h) (λ k. (h, four)))
+      (λ q. ground m _ h)
+  asked-holds m Esc c e h =
+      split (λ (a : Step). Holds I (doneBy a m c)) (eqb c 0x5B) (λ q. hold m Esc Csi c e begun h) (λ q. (h, four))
+  asked-holds m Csi c e h =
+      split (λ (a : Step). Holds I (doneBy a m c)) (inSequence c)
       (λ q.
-      split (Holds I) (eqb c 0x0A) (λ k. ground w _ h) (λ k. split (Holds I) (eqb c 0x1A) (λ r. (h, four)) (λ r. ground w _ h)))
-  step-holds w Esc error c e h = split (Holds I) (eqb c 0x5B) (λ q. hold w Esc Csi c e begun h) (λ q. (h, four))
-  step-holds w Csi error c e h =
-      split (Holds I) (inSequence c)
-      (λ q.
-      split (Holds I) (ltb (w .held) escapeLimit)
+      split (λ (a : Step). Holds I (doneBy a m c)) (ltb (m .held) escapeLimit)
       (λ k.
-      split (Holds I) (eqb c 0x6D) (λ m. ground w _ h) (λ m. hold w Csi Csi c e (longer (ltb-true (w .held) escapeLimit k)) h))
+      split (λ (a : Step). Holds I (doneBy a m c)) (eqb c 0x6D) (λ l. ground m _ h)
+      (λ l. hold m Csi Csi c e (longer (ltb-true (m .held) escapeLimit k)) h))
       (λ k. (h, six)))
       (λ q. (h, four))
+
+  -- any character in any state
+  step-holds : (m : Machine) (error : List ℕ) (c : ℕ) → I m → Holds I (writeStepOf mode m error c)
+  unfolding writeStepOf
+  step-holds m error c h = split (Holds I) (eqb c 0x1A) (λ q. (h, four)) (λ q. asked-holds m (m .state) c refl h)
 
   -- ---- steps one after the other
   -- what was added before does not matter
   behind-holds : (xs : List ℕ) (s : Stepped) → Holds I s → Holds I (behind xs s)
-  behind-holds xs (goes ys w) h = h
-  behind-holds xs (stops ys w n) h = h
+  behind-holds xs (goes ys m) h = h
+  behind-holds xs (stops ys m n) h = h
 
   -- steps, and then others
-  then-holds : (s : Stepped) (more : TextOutput → Stepped) → Holds I s → ((w : TextOutput) → I w → Holds I (more w)) →
-      Holds I (andThen s more)
-  then-holds (goes xs w) more h f = behind-holds xs (more w) (f w h)
-  then-holds (stops xs w n) more h f = h
+  then-holds : (s : Stepped) (more : Machine → Stepped) → Holds I s → ((m : Machine) → I m → Holds I (more m)) → Holds I (andThen s more)
+  then-holds (goes xs m) more h f = behind-holds xs (more m) (f m h)
+  then-holds (stops xs m n) more h f = h
 
   -- the steps over some characters
-  steps-hold : (cs : List ℕ) (w : TextOutput) (error : List ℕ) → I w → Holds I (stepsOf w error cs)
+  steps-hold : (cs : List ℕ) (m : Machine) (error : List ℕ) → I m → Holds I (stepsOf mode m error cs)
   unfolding stepsOf
-  steps-hold [] w error h = h
-  steps-hold (c ∷ cs) w error h =
-      then-holds (writeStepOf w error c) (λ next. stepsOf next error cs) (step-holds w (w .state) error c refl h)
+  steps-hold [] m error h = h
+  steps-hold (c ∷ cs) m error h =
+      then-holds (writeStepOf mode m error c) (λ next. stepsOf mode next error cs) (step-holds m error c h)
       (λ next g. steps-hold cs next error g)
 
   module _ (p : List ℕ) where
     -- .. over one run
-    run-holds : (w : TextOutput) (chars : List ℕ) → I w → Holds I (runOf p w chars)
+    run-holds : (m : Machine) (chars : List ℕ) → I m → Holds I (runOf mode p m chars)
     unfolding runOf
-    run-holds w chars h = steps-hold _ w _ h
+    run-holds m chars h = steps-hold _ m _ h
 
     -- .. over the parts that follow one
-    more-hold : (rest : List (List ℕ)) (w : TextOutput) → I w → Holds I (moreParts p w rest)
+    more-hold : (rest : List (List ℕ)) (m : Machine) → I m → Holds I (moreParts mode p m rest)
     unfolding moreParts
-    more-hold [] w h = h
-    more-hold (part ∷ rest) w h =
-        then-holds (putCrlf w) (λ next. andThen (runOf p next part) (λ after. moreParts p after rest)) (ground w _ h)
-        (λ next g. then-holds (runOf p next part) (λ after. moreParts p after rest) (run-holds next part g) (λ after e. more-hold rest after e))
+    more-hold [] m h = h
+    more-hold (part ∷ rest) m h =
+        then-holds (putCrlf m) (λ next. andThen (runOf mode p next part) (λ after. moreParts mode p after rest)) (ground m _ h)
+        (λ next g.
+        then-holds (runOf mode p next part) (λ after. moreParts mode p after rest) (run-holds next part g) (λ after e. more-hold rest after e))
 
     -- .. over all parts
-    parts-hold : (ps : List (List ℕ)) (w : TextOutput) → I w → Holds I (partsOf p w ps)
-    parts-hold [] w h = h
-    parts-hold (part ∷ rest) w h =
-        then-holds (runOf p w part) (λ after. moreParts p after rest) (run-holds w part h) (λ after e. more-hold rest after e)
+    parts-hold : (ps : List (List ℕ)) (m : Machine) → I m → Holds I (partsOf mode p m ps)
+    parts-hold [] m h = h
+    parts-hold (part ∷ rest) m h =
+        then-holds (runOf mode p m part) (λ after. moreParts mode p after rest) (run-holds m part h) (λ after e. more-hold rest after e)
 
-    -- .. in any mode
-    pub mode-holds : (m : Mode) (w : TextOutput) (chars : List ℕ) → I w → Holds I (runIn m p w chars)
-    mode-holds Plain w chars h = run-holds w chars h
-    mode-holds Crlf w chars h = parts-hold (parts chars) w h
-    mode-holds Color w chars h = run-holds w chars h
+module _ (I : Machine → Type 0) (ground : (m : Machine) (g : Ground) → I m → I (onGround m g))
+    (hold : (m : Machine) (s t : State) (c : ℕ) → m .state ≡ s → Grows s (m .held) t → I m → I (holding m t c)) (p : List ℕ) where
+  -- .. in any mode
+  pub mode-holds : (mode : Mode) (m : Machine) (chars : List ℕ) → I m → Holds I (runIn mode p m chars)
+  mode-holds Plain m chars h = run-holds I ground hold Plain p m chars h
+  mode-holds Crlf m chars h = parts-hold I ground hold Crlf p (parts chars) m h
+  mode-holds Color m chars h = run-holds I ground hold Color p m chars h
+
+-- a refused step is refused by 4 or 6
+pub mode-refuses : (p : List ℕ) (mode : Mode) (m : Machine) (chars : List ℕ) → Holds (λ (n : Machine). Unit {0}) (runIn mode p m chars)
+mode-refuses p mode m chars = mode-holds (λ (n : Machine). Unit {0}) (λ n g h. tt) (λ n s t c e g h. tt) p mode m chars tt

@@ -2,19 +2,17 @@
 -- at the mode at ESC alone and refuses 1A, which the check refuses too; 34F, which isolation puts in, is accepted.
 --     writable               accepted by the check, and no ESC
 --     writable-of            a clean list with none of the excepted ones is writable
---     groundOf, groundAfter  what stands last after a character, after some characters
 --     run-goes               steps over writable characters hand out exactly these and lead to the ground after them
 --     all-isolated           what holds of 34F and of each character of a run holds of each of the run isolated
 --     isolated-goes          the steps of one run (in CRLF mode of one part) of writable characters hand out exactly the run isolated
 use Prim.Native.Nat.{ℕ}
 use mathlib.Core.Path.{_≡_, refl}
-use mathlib.Core.Bool.{Bool, true, false, cond, not, _&&_, _||_}
+use mathlib.Core.Bool.{Bool, true, false, not, _&&_, _||_}
 use mathlib.Core.List.{List, [], _∷_, map}
 use native.Mathlib.Omega.{arith}
 use lib.Dec.{eqb}
 use borrow.Author.Tests.{eqb-true, not-true, ne-eqb}
-use Rattle.common.proofs.Kit.{never, by, both-true, both}
-use Rattle.text_utils.specs.Classes.{basicTextEnd}
+use Rattle.common.proofs.Kit.{never, both-true, both}
 use Rattle.replace.specs.Table.{inSpans}
 use Rattle.check_char.specs.Check.{excepted, reasonOf, clean, all}
 use Rattle.check_char.proofs.Clean.{accepted-joiner, refused-substitute}
@@ -22,11 +20,10 @@ use Rattle.isolate_unassigned.specs.Isolate.{isolateOf}
 use Rattle.isolate_unassigned.specs.Meaning.{PutIn, none, kept as same, put}
 use Rattle.isolate_unassigned.proofs.Laws.{isolate-puts-in}
 use Rattle.text_output.specs.declared.Ground.{Ground}
-use Rattle.text_output.specs.declared.Ground.the-variants.{Newline, ZwjOrPrepend, Other}
 use Rattle.text_output.specs.declared.State.the-variants.{Ground as Grounded}
-use Rattle.text_output.specs.declared.TextOutput.{TextOutput}
-use Rattle.text_output.specs.Writer.{onGround}
-use Rattle.text_output.specs.Step.{goes, groundStep, writeStepOf, stepsOf}
+use Rattle.text_output.specs.declared.Mode.{Mode}
+use Rattle.text_output.specs.Writer.{Machine, onGround}
+use Rattle.text_output.specs.Step.{goes, groundOf, groundAfter, writeStepOf, stepsOf}
 use Rattle.text_output.specs.Write.{checked, firstError, runOf}
 
 -- ---- writable characters
@@ -51,15 +48,6 @@ writable-joiner : writable 0x34F ≡ true
 writable-joiner = rw accepted-joiner
 
 -- ---- the steps
--- what stands last after a character
-unfoldable pub groundOf : ℕ → Ground
-groundOf c = cond (eqb c 0x0A) Newline (cond (basicTextEnd c) Other ZwjOrPrepend)
-
--- what stands last after some characters; g where there is none
-abbrev pub groundAfter : Ground → List ℕ → Ground
-groundAfter g [] = g
-groundAfter g (c ∷ cs) = groundAfter (groundOf c) cs
-
 module _ (c : ℕ) (h : writable c ≡ true) where
   no-escape : eqb c 0x1B ≡ false
   no-escape = not-true (eqb c 0x1B) (both-true (eqb (reasonOf c) 0) (not (eqb c 0x1B)) h .1)
@@ -69,20 +57,20 @@ module _ (c : ℕ) (h : writable c ≡ true) where
       let a : reasonOf c ≡ 0 = eqb-true (reasonOf c) 0 (both-true (eqb (reasonOf c) 0) (not (eqb c 0x1B)) h .0) in
       ne-eqb c 0x1A (λ e. omega (arith, refused-substitute, rw e at a))
 
-  step-goes : (w : TextOutput) (g : Ground) (error : List ℕ) → w .state ≡ Grounded g →
-      writeStepOf w error c ≡ goes (c ∷ []) (onGround w (groundOf c))
-  unfolding groundStep groundOf
-  step-goes w g error s = by (eqb c 0x0A) (λ n. rw (s, no-escape, n)) (λ n. rw (s, no-escape, n, no-substitute))
+  step-goes : (mode : Mode) (m : Machine) (g : Ground) (error : List ℕ) → m .state ≡ Grounded g →
+      writeStepOf mode m error c ≡ goes (c ∷ []) (onGround m (groundOf c))
+  unfolding writeStepOf
+  step-goes mode m g error s = rw (no-substitute, s, no-escape)
 
-pub run-goes : (cs : List ℕ) (w : TextOutput) (g : Ground) (error : List ℕ) → w .state ≡ Grounded g → w .held ≡ 0 →
-    all writable cs ≡ true → stepsOf w error cs ≡ goes cs (onGround w (groundAfter g cs))
+pub run-goes : (mode : Mode) (cs : List ℕ) (m : Machine) (g : Ground) (error : List ℕ) → m .state ≡ Grounded g → m .held ≡ 0 →
+    all writable cs ≡ true → stepsOf mode m error cs ≡ goes cs (onGround m (groundAfter g cs))
 unfolding stepsOf
-run-goes [] w g error s n h = rw (← s, ← n)
-run-goes (c ∷ cs) w g error s n h =
+run-goes mode [] m g error s n h = rw (← s, ← n)
+run-goes mode (c ∷ cs) m g error s n h =
     let q = both-true (writable c) (all writable cs) h in
     rw (
-      step-goes c (q .0) w g error s,
-      run-goes cs (onGround w (groundOf c)) (groundOf c) error refl refl (q .1),
+      step-goes c (q .0) mode m g error s,
+      run-goes mode cs (onGround m (groundOf c)) (groundOf c) error refl refl (q .1),
     )
 
 -- ---- a write
@@ -101,9 +89,9 @@ checked-same (c ∷ cs) h =
     let q = both-true (writable c) (all writable cs) h in
     rw (both-true (eqb (reasonOf c) 0) (not (eqb c 0x1B)) (q .0) .0, checked-same cs (q .1))
 
-pub isolated-goes : (p cs : List ℕ) (w : TextOutput) (g : Ground) → w .state ≡ Grounded g → w .held ≡ 0 → all writable cs ≡ true →
-    runOf p w cs ≡ goes (isolateOf p cs) (onGround w (groundAfter g (isolateOf p cs)))
+pub isolated-goes : (mode : Mode) (p cs : List ℕ) (m : Machine) (g : Ground) → m .state ≡ Grounded g → m .held ≡ 0 →
+    all writable cs ≡ true → runOf mode p m cs ≡ goes (isolateOf p cs) (onGround m (groundAfter g (isolateOf p cs)))
 unfolding runOf
-isolated-goes p cs w g s n h =
+isolated-goes mode p cs m g s n h =
     rw (checked-same cs h)
-    (run-goes (isolateOf p cs) w g (firstError cs) s n (all-isolated writable writable-joiner p cs h))
+    (run-goes mode (isolateOf p cs) m g (firstError cs) s n (all-isolated writable writable-joiner p cs h))

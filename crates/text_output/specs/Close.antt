@@ -5,11 +5,11 @@ use Rattle.text_output.specs.declared.Ground.the-variants.{Newline, ZwjO
 use Rattle.text_output.specs.declared.State.{State}
 use Rattle.text_output.specs.declared.State.the-variants.{Ground, Esc, Csi}
 use Rattle.text_output.specs.declared.TextOutput.{TextOutput}
-use Rattle.text_output.specs.Writer.{Given, sound, afterNewline, keeping, refusedBy, abandonedBy}
+use Rattle.text_output.specs.Writer.{Given, machineOf, writerWith, sound, afterNewline, refusedBy, abandonedBy}
 
 -- a start is expected
 abbrev pub expecting : TextOutput → TextOutput
-expecting w = keeping w true (w .kept)
+expecting w = writerWith (w .mode) true (w .kept) (machineOf w)
 
 -- accepted, with the record after
 abbrev pub done : TextOutput → Given
@@ -26,7 +26,7 @@ flushIn Csi w = refusedBy 13 w
 
 -- "Flush and close test 9, then the state"
 unfoldable pub flushOf : TextOutput → Given
-flushOf w = cond (sound w) (flushIn (w .state) w) (refusedBy 9 w)
+flushOf w = cond (sound (machineOf w)) (flushIn (w .state) w) (refusedBy 9 w)
 
 -- "12 close after another character that is no newline"; "close sets it again, refused or not": but by 9, which changes nothing
 abbrev pub closeIn : State → TextOutput → Given
@@ -37,7 +37,7 @@ closeIn Esc w = abandonedBy (13 ∷ []) (expecting w)
 closeIn Csi w = abandonedBy (13 ∷ []) (expecting w)
 
 unfoldable pub closeOf : TextOutput → Given
-closeOf w = cond (sound w) (closeIn (w .state) w) (refusedBy 9 w)
+closeOf w = cond (sound (machineOf w)) (closeIn (w .state) w) (refusedBy 9 w)
 
 -- "abandon refuses nothing, leaves kept and expectation, and is after a newline"
 unfoldable pub abandonOf : TextOutput → TextOutput

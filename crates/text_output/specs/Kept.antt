@@ -1,11 +1,17 @@
--- What a write does with the characters that its writer keeps. Document 01, "Characters go out": they "stay kept and go out with the
--- next success".
+-- What stays kept, and goes out first. Document 01, "Characters go out": characters "stay kept and go out with the next success".
 use Prim.Native.Nat.{ℕ, _≤_, _<_}
+use mathlib.Core.Bool.{Bool, cond}
 use mathlib.Core.List.{List, [], _∷_}
 use mathlib.Core.Path.{_≡_}
 use lib.ListN.{take}
 use Rattle.text_output.specs.declared.TextOutput.{TextOutput}
 use Rattle.text_output.specs.Writer.{Outcome}
+
+-- how many stay kept as a write ends, of so many in the first places: none where they are handed out, "and sets kept to 0."; all
+-- where it is refused: "After 4 or 6 the characters before the refused one, and after 5 all that was to be handed out, stay kept and go
+-- out with the next success."
+abbrev pub keptAfter : Bool → ℕ → ℕ
+keptAfter handed k = cond handed 0 k
 
 -- of the writer and the places at entry, and what the write returned and left
 pub record KeptFirst (w : TextOutput) (places : List ℕ) (wrote : Outcome) : Type 0 where

@@ -3,7 +3,7 @@
 use Prim.Native.Nat.{ℕ, _≤_}
 use mathlib.Core.Bool.{false}
 use mathlib.Core.Path.{_≡_}
-use mathlib.Core.List.{List, [], _∷_, _++_}
+use mathlib.Core.List.{List, [], _∷_, _++_, map}
 use lib.ListN.{length, take}
 use Rattle.isolate_unassigned.specs.Isolate.{isolateOf}
 use Rattle.text_output.specs.declared.Mode.{Mode}
@@ -32,12 +32,12 @@ PassesIn mode page queue out =
     (closed : Given) → closed ≡ closeOf (wrote .given .next) → Passes out wrote closed
 
 -- ---- what goes out in CRLF mode
--- parts isolated, each alone, with 0D 0A between one and the next
-abbrev pub isolatedParts : List ℕ → List (List ℕ) → List ℕ
-isolatedParts page [] = []
-isolatedParts page (part ∷ []) = isolateOf page part
-isolatedParts page (part ∷ next ∷ rest) = isolateOf page part ++ 0x0D ∷ 0x0A ∷ isolatedParts page (next ∷ rest)
+-- "0A gives 0D 0A": parts joined with these between one and the next
+abbrev pub joinedByCrlf : List (List ℕ) → List ℕ
+joinedByCrlf [] = []
+joinedByCrlf (part ∷ []) = part
+joinedByCrlf (part ∷ next ∷ rest) = part ++ 0x0D ∷ 0x0A ∷ joinedByCrlf (next ∷ rest)
 
--- "In CRLF mode each part between 0A is isolated alone and 0A gives 0D 0A."
+-- "In CRLF mode each part between 0A is isolated alone"
 abbrev pub crlfOf : List ℕ → List ℕ → List ℕ
-crlfOf page queue = isolatedParts page (parts queue)
+crlfOf page queue = joinedByCrlf (map (isolateOf page) (parts queue))

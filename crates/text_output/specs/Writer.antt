@@ -1,5 +1,5 @@
--- The writer's record, what its calls answer, and the after-newline state. Document 01, "Characters go out" and "Refused ..". Assumes
--- nothing.
+-- The writer's record and what steps change of it, what its calls answer, and the after-newline state. Document 01, "Characters go
+-- out" and "Refused ..". Assumes nothing.
 use Prim.Native.Nat.{ℕ}
 use mathlib.Core.Bool.{Bool, true, false, _&&_}
 use mathlib.Core.List.{List, [], _∷_}
@@ -25,18 +25,35 @@ use Rattle.text_output.specs.declared.Answered.{Answered}
 abbrev pub escapeLimit : ℕ
 escapeLimit = 64
 
+-- what the steps of a write change: the state, how many characters of an escape in progress are held, and their places
+pub record Machine : Type 0 where
+  pub state : State
+  pub held : ℕ
+  pub escape : List ℕ
+
+abbrev pub machineOf : TextOutput → Machine
+machineOf w = record { state = w .state; held = w .held; escape = w .«escape_sequence» }
+
+-- the writer's record: its mode, whether a start is expected, how many characters are kept, and what steps change
+abbrev pub writerWith : Mode → Bool → ℕ → Machine → TextOutput
+writerWith mode expect kept m =
+    record {
+      mode = mode;
+      «expect_starter» = expect;
+      state = m .state;
+      kept = kept;
+      held = m .held;
+      «escape_sequence» = m .escape;
+    }
+
+-- as first made
+abbrev pub freshMachine : Machine
+freshMachine = record { state = Grounded Newline; held = 0; escape = replicate escapeLimit 0 }
+
 -- as first made, in a mode
 -- "Each writer mode is opened by a constructor of its own: plain, CRLF, BOM .. color."
 abbrev pub fresh : Mode → TextOutput
-fresh mode =
-    record {
-      mode = mode;
-      «expect_starter» = true;
-      state = Grounded Newline;
-      kept = 0;
-      held = 0;
-      «escape_sequence» = replicate escapeLimit 0;
-    }
+fresh mode = writerWith mode true 0 freshMachine
 
 -- what a writer in BOM mode hands out beside its record: "FEFF is handed out on opening, as a result, in no lent place"
 abbrev pub byteOrderMark : ℕ
@@ -48,39 +65,17 @@ heldIn (Grounded g) n = eqb n 0
 heldIn Esc n = eqb n 1
 heldIn Csi n = leb 2 n
 
--- what 9 does not refuse: "a writer record claiming over 64 held, or a held count that its state can't have"
--- "9 a writer record claiming over 64 held"
-abbrev pub sound : TextOutput → Bool
-sound w = leb (w .held) escapeLimit && heldIn (w .state) (w .held)
+-- what 9 does not refuse: "9 a writer record claiming over 64 held, or a held count that its state can't have"
+abbrev pub sound : Machine → Bool
+sound m = leb (m .held) escapeLimit && heldIn (m .state) (m .held)
 
--- outside an escape, where nothing is held
--- "Held counts the characters of an escape in progress, else 0."
-abbrev pub onGround : TextOutput → Ground → TextOutput
-onGround w ground =
-    record {
-      mode = w .mode;
-      «expect_starter» = w .«expect_starter»;
-      state = Grounded ground;
-      kept = w .kept;
-      held = 0;
-      «escape_sequence» = w .«escape_sequence»;
-    }
+-- outside an escape, where nothing is held: "Held counts the characters of an escape in progress, else 0."
+abbrev pub onGround : Machine → Ground → Machine
+onGround m ground = record { state = Grounded ground; held = 0; escape = m .escape }
 
 -- "its after-newline state": `reset_state`; expectation and kept characters stay
 abbrev pub afterNewline : TextOutput → TextOutput
-afterNewline w = onGround w Newline
-
--- with the expectation and the kept count given
-abbrev pub keeping : TextOutput → Bool → ℕ → TextOutput
-keeping w expect kept =
-    record {
-      mode = w .mode;
-      «expect_starter» = expect;
-      state = w .state;
-      kept = kept;
-      held = w .held;
-      «escape_sequence» = w .«escape_sequence»;
-    }
+afterNewline w = writerWith (w .mode) (w .«expect_starter») (w .kept) (onGround (machineOf w) Newline)
 
 -- ---- what a call answers, by this paper's numbers
 -- 0 and how many characters are handed out; or the refusal's number, for 4 the reason's number and its values too

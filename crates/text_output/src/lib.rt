@@ -12,7 +12,7 @@ ghost use mathlib.Core.Path.{_≡_};
 ghost use mathlib.Core.List.{[], _∷_};
 ghost use Rattle.text_output.specs.declared.Mode.the-variants.{Plain, Crlf, Color};
 ghost use Rattle.text_output.specs.declared.State.the-variants.{Ground as Grounded};
-ghost use Rattle.text_output.specs.Writer.{fresh, byteOrderMark, heldIn, sound, answeredGiven, abandonedBy};
+ghost use Rattle.text_output.specs.Writer.{machineOf, fresh, byteOrderMark, heldIn, sound, answeredGiven, abandonedBy};
 ghost use Rattle.text_output.specs.Close.{expecting, flushIn, flushOf, closeIn, closeOf, abandonOf};
 
 // What stands last outside an escape.
@@ -33,6 +33,22 @@ pub enum State {
     Esc,
     // In a sequence begun by ESC `[`.
     Csi,
+}
+
+// What a step of a write asks for: `state_machine_char` of the Rust without its stores.
+pub enum Step {
+    // The character goes out, and this stands last.
+    Out(Ground),
+    // It is held, in this state.
+    Hold(State),
+    // It ends the escape: the held characters go out, and it.
+    Whole,
+    // Refused by 4: ESC, where color escapes are not let through.
+    NoColor,
+    // Refused by 4: it is no part of the escape.
+    Unrecognized,
+    // Refused by 6: the escape holds as many as it can.
+    Full,
 }
 
 // What a newline and ESC come to: `crlf_compatibility` and `ansi_color` of the Rust, of which no constructor sets both.
@@ -159,7 +175,7 @@ impl TextOutput {
 
     // Whether the record claims a held count that its state can have, and no more than 64: what 9 lets pass. Inner; total.
     pub fn is_sound(self) -> bool
-        ensures { λ r. ⌜ r ≡ sound self ⌝ }
+        ensures { λ r. ⌜ r ≡ sound (machineOf self) ⌝ }
     {
         let state = self.state;
         (self.held <= TextOutput::ESCAPE_SEQUENCE_SIZE) & held_in(state, self.held)

@@ -13,32 +13,33 @@ use lib.ListN.{length, take, set, length-append, length-take}
 use lib.Seq.{sets}
 use Rattle.common.proofs.Lists.{sets-append}
 use Rattle.text_output.specs.declared.Ground.{Ground}
-use Rattle.text_output_write.specs.declared.step.Step.{Step}
-use Rattle.text_output_write.specs.declared.step.Step.the-variants.{Out, Whole}
+use Rattle.text_output.specs.declared.Mode.{Mode}
+use Rattle.text_output.specs.declared.Step.{Step}
+use Rattle.text_output.specs.declared.Step.the-variants.{Out, Whole}
 use Rattle.text_output_write.specs.declared.store.Place.{Place}
 use Rattle.text_output.specs.Writer.{sound}
-use Rattle.text_output.specs.Step.{writeStepOf}
-use Rattle.text_output_write.specs.Inner.{askedIn, writerAt, pushed}
-use Rattle.text_output_write.proofs.Asked.{doneBy, step-asked, takes, takes-few}
+use Rattle.text_output.specs.Step.{askedIn, doneBy, writeStepOf}
+use Rattle.text_output_write.specs.Inner.{machineAt, pushed}
+use Rattle.text_output_write.proofs.Asked.{step-asked, takes, takes-few}
 
-module _ (w : Place) (e : List ℕ) (c : ℕ) where
+module _ (mode : Mode) (w : Place) (e : List ℕ) (c : ℕ) where
   abbrev asked : Step
-  asked = askedIn (w .state) (w .mode) (w .held) c
+  asked = askedIn (w .state) mode (w .held) c
 
-  pub does : eqb c 0x1A ≡ false → (a : Step) → asked ≡ a → writeStepOf (writerAt w e) [] c ≡ doneBy a (writerAt w e) c
-  unfolding writerAt
-  does n a q = step-asked (writerAt w e) [] c n a q
+  pub does : eqb c 0x1A ≡ false → (a : Step) → asked ≡ a → writeStepOf mode (machineAt w e) [] c ≡ doneBy a (machineAt w e) c
+  unfolding machineAt
+  does n a q = step-asked mode (machineAt w e) [] c n a q
 
-  pub takes-low : sound (writerAt w e) ≡ true → takes asked ≡ true → w .held < 64
-  unfolding writerAt
-  takes-low h q = takes-few (writerAt w e) c h q
+  pub takes-low : sound (machineAt w e) ≡ true → takes asked ≡ true → w .held < 64
+  unfolding machineAt
+  takes-low h q = takes-few mode (machineAt w e) c h q
 
-  module _ (n : eqb c 0x1A ≡ false) (out : List ℕ) (room : w .at + length (pushed (writeStepOf (writerAt w e) [] c)) ≤ length out) where
+  module _ (n : eqb c 0x1A ≡ false) (out : List ℕ) (room : w .at + length (pushed (writeStepOf mode (machineAt w e) [] c)) ≤ length out) where
     pub out-room : (g : Ground) → asked ≡ Out g → w .at < length out
     out-room g q = let r = rw (does n (Out g) q) at room in omega (arith, r)
 
     pub whole-room : length e ≡ 64 → w .held < 64 → asked ≡ Whole → w .at + w .held < length out
-    unfolding writerAt
+    unfolding machineAt
     whole-room long low q =
         let r = rw (does n Whole q) at room in
         omega (arith, r, length-append (take (w .held) e) (c ∷ []), length-take (w .held) e)

@@ -23,14 +23,16 @@ use Rattle.isolate_unassigned.specs.declared.Isolated.the-variants.{One, Two}
 use Rattle.isolate_unassigned.specs.Isolate.{fresh, puts, after}
 use Rattle.isolate_unassigned.specs.Isolate.{isolateStepOf as isolatedBy}
 use Rattle.isolate_unassigned.specs.Meaning.{joiner}
-use Rattle.text_output.specs.declared.TextOutput.{TextOutput}
+use Rattle.text_output.specs.declared.Mode.{Mode}
 use Rattle.text_output_write.specs.declared.store.Place.{Place}
 use Rattle.text_output_write.specs.declared.store.Stop.{Stop}
 use Rattle.text_output_write.specs.declared.store.Pushed.the-variants.{On, Stopped}
-use Rattle.text_output.specs.Step.{andThen, writeStepOf, stepsOf}
+use Rattle.text_output.specs.Writer.{Machine}
+use Rattle.text_output.specs.Step.{andThen, refusedIn, writeStepOf, stepsOf}
 use Rattle.text_output.specs.Write.{checked, putCrlf}
-use Rattle.text_output_write.specs.Inner.{writerAt, stored, stopNumbers, progress, refusedIn, turnOf, isolatorAfter}
-use Rattle.text_output_write.proofs.Rest.{step-error, steps-one, refused-stops, accepted-no-sub, given-joined}
+use Rattle.text_output_write.specs.Inner.{machineAt, stored, stopNumbers, progress, isCrlf, turnOf, isolatorAfter}
+use Rattle.text_output_write.proofs.Asked.{refused-stops}
+use Rattle.text_output_write.proofs.Rest.{step-error, steps-one, accepted-no-sub, given-joined}
 
 -- ---- what the isolator puts before
 abbrev pub two : Isolated → Bool
@@ -42,12 +44,12 @@ unfolding isolatedBy
 puts-two p r c s e = sym (ap two e) ∙ by (puts p r c) (λ q. rw q refl) (λ q. rw q refl)
 
 -- ---- 34F, put or not
-module _ (w : Place) (escape out : List ℕ) where
-  pub joined : (put : Bool) → put ≡ true → stepsOf (writerAt w escape) [] (joiner put) ≡ writeStepOf (writerAt w escape) [] 0x34F
-  joined put e = rw e (steps-one (writerAt w escape) [] 0x34F)
+module _ (mode : Mode) (w : Place) (escape out : List ℕ) where
+  pub joined : (put : Bool) → put ≡ true → stepsOf mode (machineAt w escape) [] (joiner put) ≡ writeStepOf mode (machineAt w escape) [] 0x34F
+  joined put e = rw e (steps-one mode (machineAt w escape) [] 0x34F)
 
   pub not-joined : (put : Bool) → put ≡ false →
-      progress (On w) escape out ≡ stored (w .at) out (stepsOf (writerAt w escape) [] (joiner put))
+      progress (On w) escape out ≡ stored (w .at) out (stepsOf mode (machineAt w escape) [] (joiner put))
   unfolding stepsOf
   not-joined put e = rw (e, add-zero) refl
 
@@ -62,33 +64,33 @@ module _ (c : ℕ) (found : Checked) (told : reasonNumbers found ≡ checkNumber
   pub checked-sub : (r : BasicTextError) → found ≡ Err r → 0x1A ≡ checked c
   checked-sub r e = rw (refused c found told r e)
 
-  pub accepted-step : (w : TextOutput) → found ≡ Ok → writeStepOf w (checkNumbers c) (checked c) ≡ writeStepOf w [] c
-  accepted-step w e = rw (← checked-same e) (step-error w (checkNumbers c) [] c (no-sub e))
+  pub accepted-step : (mode : Mode) (m : Machine) → found ≡ Ok → writeStepOf mode m (checkNumbers c) (checked c) ≡ writeStepOf mode m [] c
+  accepted-step mode m e = rw (← checked-same e) (step-error mode m (checkNumbers c) [] c (no-sub e))
 
-  pub refused-stored : (w : Place) (escape out : List ℕ) (r : BasicTextError) (stop : Stop) → found ≡ Err r →
+  pub refused-stored : (mode : Mode) (w : Place) (escape out : List ℕ) (r : BasicTextError) (stop : Stop) → found ≡ Err r →
       stopNumbers stop ≡ 4 ∷ refusedIn (w .state) (errorNumbers r) →
-      progress (Stopped w stop) escape out ≡ stored (w .at) out (writeStepOf (writerAt w escape) (checkNumbers c) (checked c))
-  unfolding writerAt
-  refused-stored w escape out r stop e s =
+      progress (Stopped w stop) escape out ≡ stored (w .at) out (writeStepOf mode (machineAt w escape) (checkNumbers c) (checked c))
+  unfolding machineAt
+  refused-stored mode w escape out r stop e s =
       let t : errorNumbers r ≡ checkNumbers c = rw e at told in
-      rw (← checked-sub r e, refused-stops (writerAt w escape) (checkNumbers c), add-zero, s, t) refl
+      rw (← checked-sub r e, refused-stops mode (machineAt w escape) (checkNumbers c), add-zero, s, t) refl
 
 -- ---- the two ways of a turn
-module _ (crlf : Bool) (p : List ℕ) (w : TextOutput) (r : IsolateUnassigned) (c : ℕ) where
-  pub turn-end : crlf && eqb c 0x0A ≡ true → (owed : Bool) → owed ≡ r .«need_cgj» →
-      turnOf crlf p w r c ≡ andThen (stepsOf w [] (joiner owed)) putCrlf
+module _ (mode : Mode) (p : List ℕ) (m : Machine) (r : IsolateUnassigned) (c : ℕ) where
+  pub turn-end : isCrlf mode && eqb c 0x0A ≡ true → (owed : Bool) → owed ≡ r .«need_cgj» →
+      turnOf mode p m r c ≡ andThen (stepsOf mode m [] (joiner owed)) putCrlf
   unfolding turnOf
   turn-end e owed o = rw (e, o) refl
 
-  pub after-end : crlf && eqb c 0x0A ≡ true → isolatorAfter crlf p r c ≡ fresh
+  pub after-end : isCrlf mode && eqb c 0x0A ≡ true → isolatorAfter mode p r c ≡ fresh
   unfolding isolatorAfter
   after-end e = rw e refl
 
-  pub turn-on : crlf && eqb c 0x0A ≡ false → (put : Bool) → put ≡ puts p r (checked c) →
-      turnOf crlf p w r c ≡ stepsOf w (checkNumbers c) (joiner put ++ checked c ∷ [])
+  pub turn-on : isCrlf mode && eqb c 0x0A ≡ false → (put : Bool) → put ≡ puts p r (checked c) →
+      turnOf mode p m r c ≡ stepsOf mode m (checkNumbers c) (joiner put ++ checked c ∷ [])
   unfolding turnOf
   turn-on e put o = rw (e, o, given-joined p r (checked c)) refl
 
-  pub after-on : crlf && eqb c 0x0A ≡ false → isolatorAfter crlf p r c ≡ after (isolatedBy p r (checked c))
+  pub after-on : isCrlf mode && eqb c 0x0A ≡ false → isolatorAfter mode p r c ≡ after (isolatedBy p r (checked c))
   unfolding isolatorAfter
   after-on e = rw e refl

@@ -1,2 +1,2 @@
--- What the contracts of inner functions cite. Those of `write_str` and `write` cite the definitions of `text_output`.
+-- What the contracts of inner functions cite. What a write is, `text_output` defines: `write_str` and `write` cite its specs/Write.antt.
 pub mod Inner

@@ -6,6 +6,7 @@ use super::store::Stop;
 use common::ESCAPE_FULL;
 use common::NO_START;
 use text_output::Ground;
+use text_output::Mode;
 use text_output::State;
 use text_output::TextOutput;
 use text_output::Written;
@@ -16,23 +17,18 @@ ghost use mathlib.Core.Bool.{true};
 ghost use mathlib.Core.List.{[], _∷_};
 ghost use lib.ListN.{getD};
 ghost use Rattle.page.specs.Page.{accepted};
-ghost use Rattle.text_output.specs.Writer.{wroteNumbers, wroteTells, writtenOutcome};
-ghost use Rattle.text_output.specs.Write.{succeeds};
+ghost use Rattle.text_output.specs.Writer.{machineOf, wroteNumbers, wroteTells, writtenOutcome};
 ghost use Rattle.text_output_write.specs.declared.store.Pushed.the-variants.{On, Stopped};
-ghost use Rattle.text_output_write.specs.Inner.{writerAt, stopNumbers, progress, handsOut, startOrNone, keptBy, endOf};
+ghost use Rattle.text_output_write.specs.Inner.{machineAt, stopNumbers, progress, startOrNone, keptBy, endOf};
 
-// A writer's record at a place of its buffer, as a write begins: behind the kept characters.
+// Where a write begins: behind the kept characters.
 pub fn place_of(w: TextOutput) -> Place
-    ensures { λ r. ⌜ writerAt r (w .«escape_sequence») ≡ w ⌝ }
+    ensures { λ r. ⌜ machineAt r (w .«escape_sequence») ≡ machineOf w ⌝ }
     ensures { λ r. ⌜ r .at ≡ w .kept ⌝ }
 {
-    let mode = w.mode;
     let state = w.state;
     Place {
-        mode,
-        expect_starter: w.expect_starter,
         state,
-        kept: w.kept,
         held: w.held,
         at: w.kept,
     }
@@ -60,14 +56,19 @@ fn start_or_none(page: &[u32], n: usize, first: u32) -> bool
 }
 
 // The characters up to the place are handed out, or refused by 5 and kept. Inner, as `start_or_none`.
-fn hand_out(page: &[u32], w: Place, escape: [u32; 64], first: u32) -> Written
+fn hand_out(
+    page: &[u32],
+    mode: Mode,
+    expect_starter: bool,
+    w: Place,
+    escape: [u32; 64],
+    first: u32,
+) -> Written
     requires { ⌜ accepted (now page) ≡ true ⌝ }
-    ensures outcome { λ r. ⌜ writtenOutcome r (first ∷ []) ≡ endOf (now (page .entry)) (progress (On w) escape (first ∷ [])) ⌝ }
-    ensures told { λ r. ⌜ handsOut (r .answer) ≡ succeeds (wroteNumbers (r .answer)) ⌝ }
+    ensures { λ r. ⌜ writtenOutcome r (first ∷ []) ≡ endOf (now (page .entry)) mode «expect_starter» (progress (On w) escape (first ∷ [])) ⌝ }
 {
-    let mode = w.mode;
     let state = w.state;
-    if w.expect_starter & !start_or_none(page, w.at, first) {
+    if expect_starter & !start_or_none(page, w.at, first) {
         Written {
             answer: Wrote::Abandon(NO_START),
             next: TextOutput {
@@ -98,7 +99,6 @@ fn hand_out(page: &[u32], w: Place, escape: [u32; 64], first: u32) -> Written
 fn refused(stop: Stop) -> Wrote
     ensures { λ r. ⌜ wroteNumbers r ≡ stopNumbers stop ⌝ }
     ensures { λ r. ⌜ wroteTells r ≡ true ⌝ }
-    ensures { λ r. ⌜ handsOut r ≡ succeeds (wroteNumbers r) ⌝ }
 {
     match stop {
         Stop::Reason(e) => Wrote::Unwritable(e),
@@ -107,16 +107,14 @@ fn refused(stop: Stop) -> Wrote
 }
 
 // A refused step: the characters before it stay kept.
-fn keep(w: Place, stop: Stop, escape: [u32; 64]) -> Written
-    ensures outcome { λ r. ⌜ writtenOutcome r [] .given ≡ keptBy (progress (Stopped w stop) escape []) ⌝ }
-    ensures told { λ r. ⌜ handsOut (r .answer) ≡ succeeds (wroteNumbers (r .answer)) ⌝ }
+fn keep(mode: Mode, expect_starter: bool, w: Place, stop: Stop, escape: [u32; 64]) -> Written
+    ensures { λ r. ⌜ writtenOutcome r [] .given ≡ keptBy mode «expect_starter» (progress (Stopped w stop) escape []) ⌝ }
 {
-    let mode = w.mode;
     Written {
         answer: refused(stop),
         next: TextOutput {
             mode,
-            expect_starter: w.expect_starter,
+            expect_starter,
             state: State::Ground(Ground::Newline),
             kept: w.at,
             held: 0,
@@ -126,13 +124,19 @@ fn keep(w: Place, stop: Stop, escape: [u32; 64]) -> Written
 }
 
 // How a write ends, by where its steps led and the first place after them. Inner, as `start_or_none`.
-pub fn end_write(page: &[u32], pushed: Pushed, escape: [u32; 64], first: u32) -> Written
+pub fn end_write(
+    page: &[u32],
+    mode: Mode,
+    expect_starter: bool,
+    pushed: Pushed,
+    escape: [u32; 64],
+    first: u32,
+) -> Written
     requires { ⌜ accepted (now page) ≡ true ⌝ }
-    ensures outcome { λ r. ⌜ writtenOutcome r (first ∷ []) ≡ endOf (now (page .entry)) (progress pushed escape (first ∷ [])) ⌝ }
-    ensures told { λ r. ⌜ handsOut (r .answer) ≡ succeeds (wroteNumbers (r .answer)) ⌝ }
+    ensures { λ r. ⌜ writtenOutcome r (first ∷ []) ≡ endOf (now (page .entry)) mode «expect_starter» (progress pushed escape (first ∷ [])) ⌝ }
 {
     match pushed {
-        Pushed::On(w) => hand_out(page, w, escape, first),
-        Pushed::Stopped(w, stop) => keep(w, stop, escape),
+        Pushed::On(w) => hand_out(page, mode, expect_starter, w, escape, first),
+        Pushed::Stopped(w, stop) => keep(mode, expect_starter, w, stop, escape),
     }
 }

@@ -11,6 +11,7 @@ use check_char::check_basic_text_char;
 use isolate_unassigned::IsolateUnassigned;
 use isolate_unassigned::Isolated;
 use text_output::Ground;
+use text_output::Mode;
 use text_output::State;
 use unicode::CGJ;
 use unicode::SUB;
@@ -28,9 +29,9 @@ ghost use Rattle.isolate_unassigned.specs.Isolate.{puts, after, lastOwed};
 ghost use Rattle.isolate_unassigned.specs.Isolate.{isolateStepOf as isolatedBy};
 ghost use Rattle.isolate_unassigned.specs.Meaning.{joiner};
 ghost use Rattle.text_output.specs.Writer.{sound};
-ghost use Rattle.text_output.specs.Step.{andThen, writeStepOf, stepsOf};
+ghost use Rattle.text_output.specs.Step.{refusedIn, andThen, writeStepOf, stepsOf};
 ghost use Rattle.text_output.specs.Write.{checked, putCrlf, runIn};
-ghost use Rattle.text_output_write.specs.Inner.{writerAt, pushed, stored, stopNumbers, progress, refusedIn, turnOf, isolatorAfter};
+ghost use Rattle.text_output_write.specs.Inner.{machineAt, pushed, stored, stopNumbers, progress, turnOf, isolatorAfter};
 
 // ---- before a character
 // Whether the isolator puts 34F before a character, and the isolator after it.
@@ -59,17 +60,16 @@ fn look_ahead(page: &[u32], isolator: IsolateUnassigned, c: u32) -> Ahead
 }
 
 // 34F, where it is put. Inner, as `push`.
-fn push_joiner(w: Place, put: bool, escape: &mut [u32], out: &mut [u32]) -> Pushed
-    requires sound { ⌜ sound (writerAt w (now escape)) ≡ true ⌝ }
-    requires long { ⌜ length (now escape) ≡ 64 ⌝ }
-    requires room { ⌜ w .at + length (pushed (stepsOf (writerAt w (now escape)) [] (joiner put))) ≤ length (now out) ⌝ }
+fn push_joiner(mode: Mode, w: Place, put: bool, escape: &mut [u32; 64], out: &mut [u32]) -> Pushed
+    requires sound { ⌜ sound (machineAt w (now escape)) ≡ true ⌝ }
+    requires room { ⌜ w .at + length (pushed (stepsOf mode (machineAt w (now escape)) [] (joiner put))) ≤ length (now out) ⌝ }
     ensures { λ r. ⌜
         progress r (now (escape .exit)) (now (out .exit))
-        ≡ stored (w .at) (now (out .entry)) (stepsOf (writerAt w (now (escape .entry))) [] (joiner put))
+        ≡ stored (w .at) (now (out .entry)) (stepsOf mode (machineAt w (now (escape .entry))) [] (joiner put))
         ⌝ }
 {
     if put {
-        push(w, CGJ, escape, out)
+        push(mode, w, CGJ, escape, out)
     } else {
         Pushed::On(w)
     }
@@ -99,18 +99,24 @@ fn categorized(c: u32, found: Checked) -> u32
 }
 
 // The character stepped, or 1A, which stops. Inner, as `push`, and asks for what the check found.
-fn push_categorized(w: Place, c: u32, found: Checked, escape: &mut [u32], out: &mut [u32]) -> Pushed
+fn push_categorized(
+    mode: Mode,
+    w: Place,
+    c: u32,
+    found: Checked,
+    escape: &mut [u32; 64],
+    out: &mut [u32],
+) -> Pushed
     requires told { ⌜ reasonNumbers found ≡ checkNumbers c ⌝ }
-    requires sound { ⌜ sound (writerAt w (now escape)) ≡ true ⌝ }
-    requires long { ⌜ length (now escape) ≡ 64 ⌝ }
-    requires room { ⌜ w .at + length (pushed (writeStepOf (writerAt w (now escape)) (checkNumbers c) (checked c))) ≤ length (now out) ⌝ }
+    requires sound { ⌜ sound (machineAt w (now escape)) ≡ true ⌝ }
+    requires room { ⌜ w .at + length (pushed (writeStepOf mode (machineAt w (now escape)) (checkNumbers c) (checked c))) ≤ length (now out) ⌝ }
     ensures { λ r. ⌜
         progress r (now (escape .exit)) (now (out .exit))
-        ≡ stored (w .at) (now (out .entry)) (writeStepOf (writerAt w (now (escape .entry))) (checkNumbers c) (checked c))
+        ≡ stored (w .at) (now (out .entry)) (writeStepOf mode (machineAt w (now (escape .entry))) (checkNumbers c) (checked c))
         ⌝ }
 {
     match found {
-        Checked::Ok => push(w, c, escape, out),
+        Checked::Ok => push(mode, w, c, escape, out),
         Checked::Err(e) => {
             let state = w.state;
             Pushed::Stopped(w, stop_in(state, e))
@@ -120,56 +126,51 @@ fn push_categorized(w: Place, c: u32, found: Checked, escape: &mut [u32], out: &
 
 // 34F, where it is put, and then the character. Inner, as `push_categorized`.
 fn push_isolated(
+    mode: Mode,
     w: Place,
     put: bool,
     c: u32,
     found: Checked,
-    escape: &mut [u32],
+    escape: &mut [u32; 64],
     out: &mut [u32],
 ) -> Pushed
     requires told { ⌜ reasonNumbers found ≡ checkNumbers c ⌝ }
-    requires sound { ⌜ sound (writerAt w (now escape)) ≡ true ⌝ }
-    requires long { ⌜ length (now escape) ≡ 64 ⌝ }
+    requires sound { ⌜ sound (machineAt w (now escape)) ≡ true ⌝ }
     requires room { ⌜
-        w .at + length (pushed (stepsOf (writerAt w (now escape)) (checkNumbers c) (joiner put ++ checked c ∷ []))) ≤ length (now out)
+        w .at + length (pushed (stepsOf mode (machineAt w (now escape)) (checkNumbers c) (joiner put ++ checked c ∷ []))) ≤ length (now out)
         ⌝ }
     ensures { λ r. ⌜
         progress r (now (escape .exit)) (now (out .exit))
-        ≡ stored (w .at) (now (out .entry)) (stepsOf (writerAt w (now (escape .entry))) (checkNumbers c) (joiner put ++ checked c ∷ []))
+        ≡ stored (w .at) (now (out .entry)) (stepsOf mode (machineAt w (now (escape .entry))) (checkNumbers c) (joiner put ++ checked c ∷ []))
         ⌝ }
 {
-    let before = push_joiner(w, put, escape, out);
+    let before = push_joiner(mode, w, put, escape, out);
     match before {
-        Pushed::On(next) => push_categorized(next, c, found, escape, out),
+        Pushed::On(next) => push_categorized(mode, next, c, found, escape, out),
         Pushed::Stopped(_, _) => before,
     }
 }
 
 // ---- the end of a line
 // 34F, where it is owed, and then 0D 0A, from any state. Inner, as `push`.
-fn line_end(w: Place, owed: bool, escape: &mut [u32], out: &mut [u32]) -> Pushed
-    requires sound { ⌜ sound (writerAt w (now escape)) ≡ true ⌝ }
-    requires long { ⌜ length (now escape) ≡ 64 ⌝ }
+fn line_end(mode: Mode, w: Place, owed: bool, escape: &mut [u32; 64], out: &mut [u32]) -> Pushed
+    requires sound { ⌜ sound (machineAt w (now escape)) ≡ true ⌝ }
     requires room { ⌜
-        w .at + length (pushed (andThen (stepsOf (writerAt w (now escape)) [] (joiner owed)) putCrlf)) ≤ length (now out)
+        w .at + length (pushed (andThen (stepsOf mode (machineAt w (now escape)) [] (joiner owed)) putCrlf)) ≤ length (now out)
         ⌝ }
     ensures { λ r. ⌜
         progress r (now (escape .exit)) (now (out .exit))
-        ≡ stored (w .at) (now (out .entry)) (andThen (stepsOf (writerAt w (now (escape .entry))) [] (joiner owed)) putCrlf)
+        ≡ stored (w .at) (now (out .entry)) (andThen (stepsOf mode (machineAt w (now (escape .entry))) [] (joiner owed)) putCrlf)
         ⌝ }
 {
-    let before = push_joiner(w, owed, escape, out);
+    let before = push_joiner(mode, w, owed, escape, out);
     match before {
         Pushed::On(next) => {
-            let mode = next.mode;
             let at = next.at;
             out[at] = 0xd;
             out[at + 1] = 0xa;
             Pushed::On(Place {
-                mode,
-                expect_starter: next.expect_starter,
                 state: State::Ground(Ground::Newline),
-                kept: next.kept,
                 held: 0,
                 at: at + 2,
             })
@@ -185,29 +186,28 @@ pub struct Turned {
     pub isolator: IsolateUnassigned,
 }
 
-// One character of a write: 0A ends a part where `crlf`. Inner, as `push`, and asks for an accepted page.
+// One character of a write. Inner, as `push`, and asks for an accepted page.
 pub fn turn(
     page: &[u32],
-    crlf: bool,
+    mode: Mode,
     w: Place,
     isolator: IsolateUnassigned,
     c: u32,
-    escape: &mut [u32],
+    escape: &mut [u32; 64],
     out: &mut [u32],
 ) -> Turned
     requires page { ⌜ accepted (now page) ≡ true ⌝ }
-    requires sound { ⌜ sound (writerAt w (now escape)) ≡ true ⌝ }
-    requires long { ⌜ length (now escape) ≡ 64 ⌝ }
-    requires room { ⌜ w .at + length (pushed (turnOf crlf (now page) (writerAt w (now escape)) isolator c)) ≤ length (now out) ⌝ }
+    requires sound { ⌜ sound (machineAt w (now escape)) ≡ true ⌝ }
+    requires room { ⌜ w .at + length (pushed (turnOf mode (now page) (machineAt w (now escape)) isolator c)) ≤ length (now out) ⌝ }
     ensures { λ r. ⌜
         progress (r .pushed) (now (escape .exit)) (now (out .exit))
-        ≡ stored (w .at) (now (out .entry)) (turnOf crlf (now (page .entry)) (writerAt w (now (escape .entry))) isolator c)
+        ≡ stored (w .at) (now (out .entry)) (turnOf mode (now (page .entry)) (machineAt w (now (escape .entry))) isolator c)
         ⌝ }
-    ensures { λ r. ⌜ r .isolator ≡ isolatorAfter crlf (now (page .entry)) isolator c ⌝ }
+    ensures { λ r. ⌜ r .isolator ≡ isolatorAfter mode (now (page .entry)) isolator c ⌝ }
 {
-    if crlf & (c == 0xa) {
+    if is_crlf(mode) & (c == 0xa) {
         Turned {
-            pushed: line_end(w, isolator.finish(), escape, out),
+            pushed: line_end(mode, w, isolator.finish(), escape, out),
             isolator: IsolateUnassigned::new(),
         }
     } else {
@@ -215,46 +215,55 @@ pub fn turn(
         let ahead = look_ahead(page, isolator, categorized(c, found));
         let next = ahead.isolator;
         Turned {
-            pushed: push_isolated(w, ahead.put, c, found, escape, out),
+            pushed: push_isolated(mode, w, ahead.put, c, found, escape, out),
             isolator: next,
         }
     }
 }
 
 // The 34F that the isolator owes at the end. Inner, as `push`.
-pub fn finish(w: Place, isolator: IsolateUnassigned, escape: &mut [u32], out: &mut [u32]) -> Pushed
-    requires sound { ⌜ sound (writerAt w (now escape)) ≡ true ⌝ }
-    requires long { ⌜ length (now escape) ≡ 64 ⌝ }
-    requires room { ⌜ w .at + length (pushed (stepsOf (writerAt w (now escape)) [] (lastOwed isolator))) ≤ length (now out) ⌝ }
+pub fn finish(
+    mode: Mode,
+    w: Place,
+    isolator: IsolateUnassigned,
+    escape: &mut [u32; 64],
+    out: &mut [u32],
+) -> Pushed
+    requires sound { ⌜ sound (machineAt w (now escape)) ≡ true ⌝ }
+    requires room { ⌜ w .at + length (pushed (stepsOf mode (machineAt w (now escape)) [] (lastOwed isolator))) ≤ length (now out) ⌝ }
     ensures { λ r. ⌜
         progress r (now (escape .exit)) (now (out .exit))
-        ≡ stored (w .at) (now (out .entry)) (stepsOf (writerAt w (now (escape .entry))) [] (lastOwed isolator))
+        ≡ stored (w .at) (now (out .entry)) (stepsOf mode (machineAt w (now (escape .entry))) [] (lastOwed isolator))
         ⌝ }
 {
-    push_joiner(w, isolator.finish(), escape, out)
+    push_joiner(mode, w, isolator.finish(), escape, out)
 }
 
 // ---- a write
 // The steps of a write of characters. Inner, as `turn`. What is left of them, from the place at hand on, leads to the same end.
-pub fn run(page: &[u32], start: Place, chars: &[u32], escape: &mut [u32], out: &mut [u32]) -> Pushed
+pub fn run(
+    page: &[u32],
+    mode: Mode,
+    start: Place,
+    chars: &[u32],
+    escape: &mut [u32; 64],
+    out: &mut [u32],
+) -> Pushed
     requires page { ⌜ accepted (now page) ≡ true ⌝ }
-    requires sound { ⌜ sound (writerAt start (now escape)) ≡ true ⌝ }
-    requires long { ⌜ length (now escape) ≡ 64 ⌝ }
+    requires sound { ⌜ sound (machineAt start (now escape)) ≡ true ⌝ }
     requires room { ⌜
-        start .at + length (pushed (runIn (start .mode) (now page) (writerAt start (now escape)) (now chars))) ≤ length (now out)
+        start .at + length (pushed (runIn mode (now page) (machineAt start (now escape)) (now chars))) ≤ length (now out)
         ⌝ }
     ensures { λ r. ⌜
         progress r (now (escape .exit)) (now (out .exit))
-        ≡ stored (start .at) (now (out .entry)) (runIn (start .mode) (now (page .entry)) (writerAt start (now (escape .entry))) (now (chars .entry)))
+        ≡ stored (start .at) (now (out .entry)) (runIn mode (now (page .entry)) (machineAt start (now (escape .entry))) (now (chars .entry)))
         ⌝ }
 {
-    let mode = start.mode;
-    let crlf = is_crlf(mode);
     let mut w = start;
     let mut isolator = IsolateUnassigned::new();
     let mut i = 0;
     while i < chars.len() {
-        let turned = turn(page, crlf, w, isolator, chars[i], escape, out);
+        let turned = turn(page, mode, w, isolator, chars[i], escape, out);
         let pushed = turned.pushed;
         let after = turned.isolator;
         i += 1;
@@ -268,30 +277,28 @@ pub fn run(page: &[u32], start: Place, chars: &[u32], escape: &mut [u32], out: &
             }
         }
     }
-    finish(w, isolator, escape, out)
+    finish(mode, w, isolator, escape, out)
 }
 
 // The steps of a write of the longest valid prefix. Inner, as `run`. The loop ends where no character begins.
 pub fn run_bytes(
     page: &[u32],
+    mode: Mode,
     start: Place,
     bytes: &[u8],
-    escape: &mut [u32],
+    escape: &mut [u32; 64],
     out: &mut [u32],
 ) -> Pushed
     requires page { ⌜ accepted (now page) ≡ true ⌝ }
-    requires sound { ⌜ sound (writerAt start (now escape)) ≡ true ⌝ }
-    requires long { ⌜ length (now escape) ≡ 64 ⌝ }
+    requires sound { ⌜ sound (machineAt start (now escape)) ≡ true ⌝ }
     requires room { ⌜
-        start .at + length (pushed (runIn (start .mode) (now page) (writerAt start (now escape)) (charsOf (now bytes)))) ≤ length (now out)
+        start .at + length (pushed (runIn mode (now page) (machineAt start (now escape)) (charsOf (now bytes)))) ≤ length (now out)
         ⌝ }
     ensures { λ r. ⌜
         progress r (now (escape .exit)) (now (out .exit))
-        ≡ stored (start .at) (now (out .entry)) (runIn (start .mode) (now (page .entry)) (writerAt start (now (escape .entry))) (charsOf (now (bytes .entry))))
+        ≡ stored (start .at) (now (out .entry)) (runIn mode (now (page .entry)) (machineAt start (now (escape .entry))) (charsOf (now (bytes .entry))))
         ⌝ }
 {
-    let mode = start.mode;
-    let crlf = is_crlf(mode);
     let mut w = start;
     let mut isolator = IsolateUnassigned::new();
     let mut place = 0;
@@ -300,7 +307,7 @@ pub fn run_bytes(
             break;
         };
         place = next_place;
-        let turned = turn(page, crlf, w, isolator, c, escape, out);
+        let turned = turn(page, mode, w, isolator, c, escape, out);
         let pushed = turned.pushed;
         let after = turned.isolator;
         match pushed {
@@ -313,5 +320,5 @@ pub fn run_bytes(
             }
         }
     }
-    finish(w, isolator, escape, out)
+    finish(mode, w, isolator, escape, out)
 }

@@ -3,28 +3,13 @@
 use text_output::Ground;
 use text_output::Mode;
 use text_output::State;
+use text_output::Step;
 use text_output::TextOutput;
 use text_utils::is_basic_text_end;
 use unicode::ESC;
 ghost use mathlib.Core.Path.{_≡_};
-ghost use Rattle.text_output.specs.Step.{isColor};
-ghost use Rattle.text_output_write.specs.Inner.{groundAsked, escAsked, csiAsked, askedIn, isCrlf};
-
-// What a step asks for.
-pub enum Step {
-    // The character goes out, and this stands last.
-    Out(Ground),
-    // It is held, in this state.
-    Hold(State),
-    // It ends the escape: the held characters go out, and it.
-    Whole,
-    // Refused by 4: ESC, where color escapes are not let through.
-    NoColor,
-    // Refused by 4: it is no part of the escape.
-    Unrecognized,
-    // Refused by 6: the escape holds as many as it can.
-    Full,
-}
+ghost use Rattle.text_output.specs.Step.{isColor, groundOf, groundAsked, escAsked, csiAsked, askedIn};
+ghost use Rattle.text_output_write.specs.Inner.{isCrlf};
 
 // Whether color escapes are let through.
 fn is_color(mode: Mode) -> bool
@@ -48,6 +33,19 @@ pub fn is_crlf(mode: Mode) -> bool
     }
 }
 
+// What stands last after a character.
+fn ground_of(c: u32) -> Ground
+    ensures { λ r. ⌜ r ≡ groundOf c ⌝ }
+{
+    if c == 0xa {
+        Ground::Newline
+    } else if is_basic_text_end(c) {
+        Ground::Other
+    } else {
+        Ground::ZwjOrPrepend
+    }
+}
+
 // Outside an escape.
 fn ground_step(color: bool, c: u32) -> Step
     ensures { λ r. ⌜ r ≡ groundAsked color c ⌝ }
@@ -58,12 +56,8 @@ fn ground_step(color: bool, c: u32) -> Step
         } else {
             Step::NoColor
         }
-    } else if c == 0xa {
-        Step::Out(Ground::Newline)
-    } else if is_basic_text_end(c) {
-        Step::Out(Ground::Other)
     } else {
-        Step::Out(Ground::ZwjOrPrepend)
+        Step::Out(ground_of(c))
     }
 }
 

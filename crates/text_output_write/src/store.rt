@@ -1,12 +1,12 @@
 // Storing what a step asks for: `buffer` and `escape_sequence` of the Rust. The characters to hand out go to the lent places from a
-// place on, and those of an escape in progress are held beside the record, which is small without them.
-use super::step::Step;
+// place on, and those of an escape in progress are held beside what steps change, which is small without them.
 use super::step::state_machine_char;
 use check_char::BasicTextError;
 use stretch::put_run;
 use text_output::Ground;
 use text_output::Mode;
 use text_output::State;
+use text_output::Step;
 ghost use mathlib.Core.Path.{_≡_};
 ghost use mathlib.Core.Bool.{true, false};
 ghost use mathlib.Core.List.{[]};
@@ -15,14 +15,11 @@ ghost use lib.Dec.{eqb};
 ghost use lib.ListN.{length};
 ghost use Rattle.text_output.specs.Writer.{sound};
 ghost use Rattle.text_output.specs.Step.{writeStepOf};
-ghost use Rattle.text_output_write.specs.Inner.{writerAt, pushed, stored, progress};
+ghost use Rattle.text_output_write.specs.Inner.{machineAt, pushed, stored, progress};
 
-// The writer's record without the held characters, and the place for the next character to hand out.
+// What steps change, without the held characters, and the place for the next character to hand out.
 pub struct Place {
-    pub mode: Mode,
-    pub expect_starter: bool,
     pub state: State,
-    pub kept: usize,
     pub held: usize,
     pub at: usize,
 }
@@ -39,15 +36,13 @@ pub enum Pushed {
     Stopped(Place, Stop),
 }
 
-// One character that is no 1A. Inner: asks for a sound record, for places for 64 held characters, and for room.
-pub fn push(w: Place, c: u32, escape: &mut [u32], out: &mut [u32]) -> Pushed
+// One character that is no 1A. Inner: asks for a held count that the state can have, and for room.
+pub fn push(mode: Mode, w: Place, c: u32, escape: &mut [u32; 64], out: &mut [u32]) -> Pushed
     requires sub { ⌜ eqb c 0x1A ≡ false ⌝ }
-    requires sound { ⌜ sound (writerAt w (now escape)) ≡ true ⌝ }
-    requires long { ⌜ length (now escape) ≡ 64 ⌝ }
-    requires room { ⌜ w .at + length (pushed (writeStepOf (writerAt w (now escape)) [] c)) ≤ length (now out) ⌝ }
-    ensures { λ r. ⌜ progress r (now (escape .exit)) (now (out .exit)) ≡ stored (w .at) (now (out .entry)) (writeStepOf (writerAt w (now (escape .entry))) [] c) ⌝ }
+    requires sound { ⌜ sound (machineAt w (now escape)) ≡ true ⌝ }
+    requires room { ⌜ w .at + length (pushed (writeStepOf mode (machineAt w (now escape)) [] c)) ≤ length (now out) ⌝ }
+    ensures { λ r. ⌜ progress r (now (escape .exit)) (now (out .exit)) ≡ stored (w .at) (now (out .entry)) (writeStepOf mode (machineAt w (now (escape .entry))) [] c) ⌝ }
 {
-    let mode = w.mode;
     let state = w.state;
     let held = w.held;
     let at = w.at;
@@ -56,10 +51,7 @@ pub fn push(w: Place, c: u32, escape: &mut [u32], out: &mut [u32]) -> Pushed
         Step::Out(ground) => {
             out[at] = c;
             Pushed::On(Place {
-                mode,
-                expect_starter: w.expect_starter,
                 state: State::Ground(ground),
-                kept: w.kept,
                 held: 0,
                 at: at + 1,
             })
@@ -67,22 +59,17 @@ pub fn push(w: Place, c: u32, escape: &mut [u32], out: &mut [u32]) -> Pushed
         Step::Hold(next) => {
             escape[held] = c;
             Pushed::On(Place {
-                mode,
-                expect_starter: w.expect_starter,
                 state: next,
-                kept: w.kept,
                 held: held + 1,
                 at,
             })
         }
         Step::Whole => {
-            put_run(&escape[0..held], out, at);
+            let all = &escape[..];
+            put_run(&all[0..held], out, at);
             out[at + held] = c;
             Pushed::On(Place {
-                mode,
-                expect_starter: w.expect_starter,
                 state: State::Ground(Ground::Other),
-                kept: w.kept,
                 held: 0,
                 at: at + held + 1,
             })

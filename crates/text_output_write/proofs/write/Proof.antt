@@ -4,76 +4,75 @@ use native.Mathlib.Omega.{arith}
 use denote.Ref.{now}
 use lib.ListN.{length}
 use Rattle.unicode.specs.declared.utf8.Prefix.{Prefix}
-use Rattle.unicode.specs.Utf8.{charsOf}
-use Rattle.unicode.proofs.Texts.{longest}
-use Rattle.text_output.specs.Write.{taking}
-use Rattle.text_output_write.proofs.Entries.{bytes-refused, let-through, bytes-run, write-ends, end-anywhere, place-sound, place-fits, same-end, taken, refused-anywhere}
+use Rattle.unicode.specs.Utf8.{charsOf, encodeAll}
+use Rattle.text_output.specs.Write.{writeBytesRefusal, taking}
+use Rattle.text_output_write.proofs.Entries.{Through, let-through, bytes-refused, bytes-written, refused-anywhere, end-anywhere, place-asks, place-ends, taken}
 use borrow.Author.Needs.{needs}
 use Rattle.text_output_write.proofs.write.Statement.{statement}
 use Rattle.text_output_write.proofs.write.Tie as tie
 
--- the record has places for 64 held characters
-long : (s : tie.Start) → length (s .args .w .«escape_sequence») ≡ 64
-long s = search needs
+-- what refuses before the steps is known from here on
+abbrev entry : tie.After-write-refusal → tie.Start
+entry r = r .before .before .before .before .before .before
+
+refusal : (r : tie.After-write-refusal) →
+    let a = entry r .args in
+    r .write-refusal .result ≡ writeBytesRefusal (a .w) (now (a .page)) (now (a .bytes)) (length (now (a .out)))
+refusal r = rw (r .before .bytes-refusal .ensures, r .before .before .valid-prefix .ensures) at (r .write-refusal .ensures)
+
+none : (e : tie.Else1) → e .before .write-refusal .result ≡ 0
+none e = omega (arith, e .if1 .left)
+
+through : (e : tie.Else1) →
+    let a = entry (e .before) .args in
+    Through (a .w) (now (a .page)) (length (charsOf (now (a .bytes)))) (length (now (a .out)))
+through e = let-through _ _ _ _ _ _ (refusal (e .before)) (none e)
+
+-- how many bytes the prefix has
+prefix : (r : tie.After-write-refusal) → r .before .before .valid-prefix .result .bytes ≡ length (encodeAll (charsOf (now (entry r .args .bytes))))
+prefix r = ap (λ (q : Prefix). q .bytes) (r .before .before .valid-prefix .ensures)
 
 returns : tie.Need-returns
 returns c =
-    let a = c .before .before .before .before .before .before .before .args in
+    let r = c .before .before .before in
+    let a = entry r .args in
     let w = a .w in
-    let p = now (a .page) in
     let bytes = now (a .bytes) in
     let out = now (a .out) in
-    let no = rw (c .before .before .before .valid-prefix .ensures) at (c .before .before .bytes-refusal .ensures) in
-    let r = c .refused-bytes .ensures in
-    refused-anywhere (c .refused-bytes .result) w (c .before .before .bytes-refusal .result) out (r .0) (r .1) ∙ bytes-refused w p bytes out _ no (omega (arith, c .before .if1 .taken))
+    let t = c .taking .ensures in
+    taken (c .taking .result) (c .before .refused-write .result) _ out bytes (t .0) (t .1 .0) (t .1 .1) (prefix r)
+    ∙ ap (taking bytes) (refused-anywhere (c .before .refused-write .result) w (r .write-refusal .result) out (c .before .refused-write .ensures))
+    ∙ bytes-refused w (now (a .page)) bytes out _ (refusal r) (omega (arith, c .before .before .if1 .taken))
 
 run-bytes-requires : tie.Need-run-bytes-requires
 run-bytes-requires c κs =
-    let a = c .before .before .before .before .before .before .before .before .before .before .args in
-    let w = a .w in
-    let p = now (a .page) in
-    let bytes = now (a .bytes) in
-    let out = now (a .out) in
-    let no = rw (c .before .before .before .before .before .before .valid-prefix .ensures) at (c .before .before .before .before .before .bytes-refusal .ensures) in
-    let f = let-through w p bytes out _ no (omega (arith, c .before .before .before .before .if1 .left)) in
-    let r = c .before .before .place-of .result in
-    let e = c .before .before .place-of .ensures in
-    let cs = charsOf bytes in
-    (f .page, (place-sound w r (e .0) (e .1) p cs (f .is-sound), (long (c .before .before .before .before .before .before .before .before .before .before), place-fits w r (e .0) (e .1) p cs (length out) (f .is-sound) (f .fits))))
+    let e = c .before .before .before .before in
+    let a = entry (e .before) .args in
+    place-asks (a .w) _ (c .before .before .place-of .ensures) (now (a .page)) (charsOf (now (a .bytes))) (length (now (a .out))) (through e)
 
 end-write-requires : tie.Need-end-write-requires
-end-write-requires c κs =
-    let a = c .before .before .before .before .before .before .before .before .before .before .before .before .before .before .before .before .args in
-    let w = a .w in
-    let p = now (a .page) in
-    let bytes = now (a .bytes) in
-    let out = now (a .out) in
-    let no = rw (c .before .before .before .before .before .before .before .before .before .before .before .before .valid-prefix .ensures) at (c .before .before .before .before .before .before .before .before .before .before .before .bytes-refusal .ensures) in
-    let f = let-through w p bytes out _ no (omega (arith, c .before .before .before .before .before .before .before .before .before .before .if1 .left)) in
-    f .page
+end-write-requires c κs = through (c .before .before .before .before .before .before .before .before .before) .page
 
 returns-2 : tie.Need-returns-2
 returns-2 c =
-    let a = c .before .before .before .before .before .before .before .before .before .before .before .before .before .before .before .before .before .before .args in
+    let r = c .before .before .before .before .before .before in
+    let b = r .before .before .before in
+    let e = b .before .before in
+    let a = entry (e .before) .args in
     let w = a .w in
     let p = now (a .page) in
     let bytes = now (a .bytes) in
     let out = now (a .out) in
-    let no = rw (c .before .before .before .before .before .before .before .before .before .before .before .before .before .before .valid-prefix .ensures) at (c .before .before .before .before .before .before .before .before .before .before .before .before .before .bytes-refusal .ensures) in
-    let f = let-through w p bytes out _ no (omega (arith, c .before .before .before .before .before .before .before .before .before .before .before .before .if1 .left)) in
-    let r = c .before .before .before .before .before .before .before .before .before .before .place-of .result in
-    let e = c .before .before .before .before .before .before .before .before .before .before .place-of .ensures in
-    let x = c .before .before .before .before .before .before .before .run-bytes .result in
-    let escape = c .before .before .before .before .before .before .before .run-bytes .last .1 .1 .1 .0 in
-    let after = c .before .before .before .before .before .before .before .run-bytes .last .1 .1 .1 .1 .0 in
-    let cs = charsOf bytes in
-    let t = c .taking .ensures in
-    let n = ap (λ (q : Prefix). q .bytes) (c .before .before .before .before .before .before .before .before .before .before .before .before .before .before .valid-prefix .ensures) in
+    let x = r .run-bytes .result in
+    let escape = r .run-bytes .last .1 .1 .1 .1 .0 in
+    let after = r .run-bytes .last .1 .1 .1 .1 .1 .0 in
+    let t = c .taking2 .ensures in
     let is =
-    end-anywhere p (c .before .end-write .result) x escape _ (c .before .end-write .ensures .0) after (c .before .before .first-of .ensures)
-    ∙ same-end w r (e .0) (e .1) p cs x escape after out (c .before .before .before .before .before .before .before .run-bytes .ensures)
-    ∙ write-ends w p cs out (f .is-sound) (f .page) (longest bytes .chars) (f .fits) in
-    taken (c .taking .result) (c .before .end-write .result) _ after bytes (t .0) (t .1 .0) (t .1 .1) n ∙ ap (taking bytes) is ∙ bytes-run w p bytes out (f .is-sound) (f .page) (f .begins)
+    end-anywhere p (w .mode) (w .«expect_starter») (c .before .end-write .result) x escape _ (c .before .end-write .ensures) after (c .before .before .first-of .ensures)
+    ∙ place-ends w _ (b .place-of .ensures) p (charsOf bytes) x escape after out (r .run-bytes .ensures) in
+    taken (c .taking2 .result) (c .before .end-write .result) _ after bytes (t .0) (t .1 .0) (t .1 .1) (prefix (e .before))
+    ∙ ap (taking bytes) is
+    ∙ bytes-written w p bytes out _ (refusal (e .before)) (none e)
 
 pub write-spec : {M : Type 1} → statement M
 write-spec =
@@ -82,9 +81,10 @@ write-spec =
     (λ c κs. search needs)
     (λ c κs. search needs)
     (λ c κs. search needs)
+    (λ c κs. search needs)
+    (λ c κs. search needs)
     returns
     (λ c κs. search needs)
-    (λ c. search needs)
     run-bytes-requires
     (λ c κs. search needs)
     end-write-requires

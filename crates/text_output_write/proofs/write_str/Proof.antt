@@ -1,108 +1,71 @@
--- `write_str` meets its contract: its tests are the definition's, in their order; then its steps and its end are the write.
-use Prim.Native.Nat.{_≤_}
-use mathlib.Core.Path.{_≡_, sym, _∙_}
-use mathlib.Core.Bool.{true, false}
+-- `write_str` meets its contract: it is refused as the definition says, or its steps and its end are the write.
+use mathlib.Core.Path.{_≡_, _∙_}
 use native.Mathlib.Omega.{arith}
 use denote.Ref.{now}
 use lib.ListN.{length}
-use borrow.Author.Tests.{not-true, not-false, ltb-false}
-use Rattle.unicode.specs.Chars.{areChars}
-use Rattle.text_output.specs.Write.{placesForWrite}
-use Rattle.text_output_write.proofs.Entries.{before-zero, refused-before, refused-char, refused-room, write-ends, end-anywhere, place-sound, place-fits, same-end}
+use Rattle.text_output.specs.Write.{writeStrRefusal}
+use Rattle.text_output_write.proofs.Entries.{Through, let-through, str-refused, str-written, refused-anywhere, end-anywhere, place-asks, place-ends}
 use borrow.Author.Needs.{needs}
 use Rattle.text_output_write.proofs.write_str.Statement.{statement}
 use Rattle.text_output_write.proofs.write_str.Tie as tie
 
+-- what refuses before the steps is known from here on
+abbrev entry : tie.After-write-refusal → tie.Start
+entry r = r .before .before .before .before .before
+
+refusal : (r : tie.After-write-refusal) →
+    let a = entry r .args in
+    r .write-refusal .result ≡ writeStrRefusal (a .w) (now (a .page)) (now (a .chars)) (length (now (a .out)))
+refusal r = rw (r .before .chars-refusal .ensures) at (r .write-refusal .ensures)
+
+none : (e : tie.Else1) → e .before .write-refusal .result ≡ 0
+none e = omega (arith, e .if1 .left)
+
+through : (e : tie.Else1) →
+    let a = entry (e .before) .args in Through (a .w) (now (a .page)) (length (now (a .chars))) (length (now (a .out)))
+through e = let-through _ _ _ _ _ _ (refusal (e .before)) (none e)
+
 returns : tie.Need-returns
 returns c =
-    let a = c .before .before .before .before .before .args in
-    let w = a .w in
-    let p = now (a .page) in
-    let cs = now (a .chars) in
-    let out = now (a .out) in
-    refused-before w p cs out _ (c .before .refused-before .ensures) (omega (arith, c .if1 .taken))
-
-returns-2 : tie.Need-returns-2
-returns-2 c =
-    let a = c .before .before .before .before .before .before .before .args in
-    let w = a .w in
-    let p = now (a .page) in
-    let cs = now (a .chars) in
-    let out = now (a .out) in
-    let z : c .before .before .before .refused-before .result ≡ 0 = omega (arith, c .before .before .if1 .left) in
-    let f = before-zero w p (sym (c .before .before .before .refused-before .ensures) ∙ z) in
-    let none : areChars cs ≡ false = sym (c .before .are-chars .ensures) ∙ not-true (c .before .are-chars .result) (c .if2 .taken) in
-    refused-char w p cs out (f .0) (f .1) none
-
-returns-3 : tie.Need-returns-3
-returns-3 c =
-    let a = c .before .before .before .before .before .before .before .before .before .args in
-    let w = a .w in
-    let p = now (a .page) in
-    let cs = now (a .chars) in
-    let out = now (a .out) in
-    let z : c .before .before .before .before .before .refused-before .result ≡ 0 = omega (arith, c .before .before .before .before .if1 .left) in
-    let f = before-zero w p (sym (c .before .before .before .before .before .refused-before .ensures) ∙ z) in
-    let are : areChars cs ≡ true = sym (c .before .before .before .are-chars .ensures) ∙ not-false (c .before .before .before .are-chars .result) (c .before .before .if2 .left) in
-    refused-room w p cs out (f .0) (f .1) are (sym (c .before .is-short .ensures) ∙ c .if3 .taken)
+    let r = c .before .before in
+    let a = entry r .args in
+    refused-anywhere (c .refused-write .result) (a .w) (r .write-refusal .result) (now (a .out)) (c .refused-write .ensures)
+    ∙ str-refused (a .w) (now (a .page)) (now (a .chars)) (now (a .out)) _ (refusal r) (omega (arith, c .before .if1 .taken))
 
 run-requires : tie.Need-run-requires
 run-requires c κs =
-    let a = c .before .before .before .before .before .before .before .before .before .before .before .before .before .args in
-    let w = a .w in
-    let p = now (a .page) in
-    let cs = now (a .chars) in
-    let out = now (a .out) in
-    let z : c .before .before .before .before .before .before .before .before .before .refused-before .result ≡ 0 = omega (arith, c .before .before .before .before .before .before .before .before .if1 .left) in
-    let f = before-zero w p (sym (c .before .before .before .before .before .before .before .before .before .refused-before .ensures) ∙ z) in
-    let fits : placesForWrite w (length cs) ≤ length out = ltb-false (length out) (placesForWrite w (length cs)) (sym (c .before .before .before .before .before .is-short .ensures) ∙ c .before .before .before .before .if3 .left) in
-    let r = c .before .before .place-of .result in
-    let e = c .before .before .place-of .ensures in
-    (f .1, (place-sound w r (e .0) (e .1) p cs (f .0), (search needs, place-fits w r (e .0) (e .1) p cs (length out) (f .0) fits)))
+    let e = c .before .before .before .before in
+    let a = entry (e .before) .args in
+    place-asks (a .w) _ (c .before .before .place-of .ensures) (now (a .page)) (now (a .chars)) (length (now (a .out))) (through e)
 
 end-write-requires : tie.Need-end-write-requires
-end-write-requires c κs =
-    let a = c .before .before .before .before .before .before .before .before .before .before .before .before .before .before .before .before .before .before .before .args in
-    let w = a .w in
-    let p = now (a .page) in
-    let z : c .before .before .before .before .before .before .before .before .before .before .before .before .before .before .before .refused-before .result ≡ 0 = omega (arith, c .before .before .before .before .before .before .before .before .before .before .before .before .before .before .if1 .left) in
-    let f = before-zero w p (sym (c .before .before .before .before .before .before .before .before .before .before .before .before .before .before .before .refused-before .ensures) ∙ z) in
-    f .1
+end-write-requires c κs = through (c .before .before .before .before .before .before .before .before .before) .page
 
-returns-4 : tie.Need-returns-4
-returns-4 c =
-    let a = c .before .before .before .before .before .before .before .before .before .before .before .before .before .before .before .before .before .before .before .before .args in
+returns-2 : tie.Need-returns-2
+returns-2 c =
+    let r = c .before .before .before .before .before in
+    let b = r .before .before .before in
+    let e = b .before .before in
+    let a = entry (e .before) .args in
     let w = a .w in
     let p = now (a .page) in
-    let cs = now (a .chars) in
-    let out = now (a .out) in
-    let z : c .before .before .before .before .before .before .before .before .before .before .before .before .before .before .before .before .refused-before .result ≡ 0 = omega (arith, c .before .before .before .before .before .before .before .before .before .before .before .before .before .before .before .if1 .left) in
-    let f = before-zero w p (sym (c .before .before .before .before .before .before .before .before .before .before .before .before .before .before .before .before .refused-before .ensures) ∙ z) in
-    let are : areChars cs ≡ true = sym (c .before .before .before .before .before .before .before .before .before .before .before .before .before .before .are-chars .ensures) ∙ not-false (c .before .before .before .before .before .before .before .before .before .before .before .before .before .before .are-chars .result) (c .before .before .before .before .before .before .before .before .before .before .before .before .before .if2 .left) in
-    let fits : placesForWrite w (length cs) ≤ length out = ltb-false (length out) (placesForWrite w (length cs)) (sym (c .before .before .before .before .before .before .before .before .before .before .before .before .is-short .ensures) ∙ c .before .before .before .before .before .before .before .before .before .before .before .if3 .left) in
-    let r = c .before .before .before .before .before .before .before .before .before .place-of .result in
-    let e = c .before .before .before .before .before .before .before .before .before .place-of .ensures in
-    let x = c .before .before .before .before .before .before .run .result in
-    let escape = c .before .before .before .before .before .before .run .last .1 .1 .1 .0 in
-    let after = c .before .before .before .before .before .before .run .last .1 .1 .1 .1 .0 in
-    end-anywhere p (c .end-write .result) x escape _ (c .end-write .ensures .0) after (c .before .first-of .ensures)
-    ∙ same-end w r (e .0) (e .1) p cs x escape after out (c .before .before .before .before .before .before .run .ensures)
-    ∙ write-ends w p cs out (f .0) (f .1) are fits
+    let escape = r .run .last .1 .1 .1 .1 .0 in
+    let after = r .run .last .1 .1 .1 .1 .1 .0 in
+    end-anywhere p (w .mode) (w .«expect_starter») (c .end-write .result) (r .run .result) escape _ (c .end-write .ensures) after (c .before .first-of .ensures)
+    ∙ place-ends w _ (b .place-of .ensures) p (now (a .chars)) (r .run .result) escape after (now (a .out)) (r .run .ensures)
+    ∙ str-written w p (now (a .chars)) (now (a .out)) _ (refusal (e .before)) (none e)
 
 pub write-str-spec : {M : Type 1} → statement M
 write-str-spec =
     tie.close
     (tie.spec
     (λ c κs. search needs)
+    (λ c κs. search needs)
+    (λ c κs. search needs)
     returns
     (λ c κs. search needs)
-    returns-2
-    (λ c κs. search needs)
-    returns-3
-    (λ c κs. search needs)
-    (λ c. search needs)
     run-requires
     (λ c κs. search needs)
     end-write-requires
     (λ c. search needs)
-    returns-4)
+    returns-2)

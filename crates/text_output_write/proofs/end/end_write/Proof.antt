@@ -12,9 +12,8 @@ returns c =
 
 returns-2 : tie.Need-returns-2
 returns-2 c =
-    let k = c .keep .ensures in
     rw (c .before .before .pushed2 .given .1)
-    (ap (λ (g : Given). record { given = g; places = c .before .before .before .before .before .args .first ∷ [] }) (k .0), k .1)
+    (ap (λ (g : Given). record { given = g; places = c .before .before .before .before .before .args .first ∷ [] }) (c .keep .ensures))
 
 pub end-write-spec : {M : Type 1} → statement M
 end-write-spec =

@@ -5,13 +5,11 @@ use Rattle.text_output_write.proofs.run.finish.Tie as tie
 
 push-joiner-requires : tie.Need-push-joiner-requires
 push-joiner-requires c κs =
-    let p = c .before .before .before .before .before .pre in
-    rw (c .before .before .finish .ensures) p
+    rw (c .before .before .finish .ensures) (c .before .before .before .before .pre)
 
 returns : tie.Need-returns
 returns c =
-    rw (← c .before .before .before .before .before .before .before .finish .ensures) (c .before .before .before .before .push-joiner .ensures)
+    rw (← c .before .before .before .before .before .finish .ensures) (c .before .before .push-joiner .ensures)
 
 pub finish-spec : {M : Type 1} → statement M
-finish-spec =
-    tie.close (tie.spec (λ c κs. search needs) push-joiner-requires (λ c. search needs) (λ c. search needs) returns)
+finish-spec = tie.close (tie.spec (λ c κs. search needs) push-joiner-requires (λ c. search needs) returns)

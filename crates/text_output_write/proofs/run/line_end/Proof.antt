@@ -8,7 +8,7 @@ use lib.ListN.{length, length-set}
 use Rattle.isolate_unassigned.specs.Meaning.{joiner}
 use Rattle.text_output.specs.Step.{stepsOf}
 use Rattle.text_output.specs.Write.{putCrlf}
-use Rattle.text_output_write.specs.Inner.{writerAt}
+use Rattle.text_output_write.specs.Inner.{machineAt}
 use Rattle.text_output_write.proofs.Stays.{steps-stay}
 use Rattle.text_output_write.proofs.Progress.{on-then, off-then, first-fits, next-same, next-room}
 use borrow.Author.Needs.{needs}
@@ -25,43 +25,43 @@ Ends = lts.After-known-told (push-joiner-reads.Asked, push-joiner-reads.Learnt) 
 -- there is room for it
 fits : (c : Ends) →
     let r = c .before .before2 .given .0 .0 in
-    r .at + 2 ≤ length (now (c .before .before .before .before .before .before .before .before .before .before .before .before .args .out))
+    r .at + 2 ≤ length (now (c .before .before .before .before .before .before .before .before .before .args .out))
 fits c =
-    let s = c .before .before .before .before .before .before .before .before .before .before .before .before in
+    let j = c .before .before .before .before .before in
+    let s = j .before .before .before .before in
     let a = s .args in
-    let p = s .pre in
-    let w = writerAt (a .w) (now (a .escape)) in
-    let first = stepsOf w [] (joiner (a .owed)) in
-    let e = rw (c .before .before2 .given .1) at (c .before .before .before .before .before .before .before .push-joiner .ensures) in
-    let room = next-room (a .w) (now (a .escape)) (now (a .out)) first _ (steps-stay (joiner (a .owed)) w [] (p .0)) _ _ _ e putCrlf (p .1 .1) in
-    let same = next-same (a .w) (now (a .escape)) (now (a .out)) first _ (steps-stay (joiner (a .owed)) w [] (p .0)) _ _ _ e in
+    let m = machineAt (a .w) (now (a .escape)) in
+    let first = stepsOf (a .mode) m [] (joiner (a .owed)) in
+    let stays = steps-stay (a .mode) (joiner (a .owed)) m [] (s .pre .0) in
+    let e = rw (c .before .before2 .given .1) at (j .push-joiner .ensures) in
+    let room = next-room (a .w) (now (a .escape)) (now (a .out)) first _ stays _ _ _ e putCrlf (s .pre .1) in
+    let same = next-same (a .w) (now (a .escape)) (now (a .out)) first _ stays _ _ _ e in
     omega (arith, room, same)
 
 push-joiner-requires : tie.Need-push-joiner-requires
 push-joiner-requires c κs =
-    let s = c .before .before .before .before in
+    let s = c .before .before .before in
     let a = s .args in
-    let p = s .pre in
-    let first = stepsOf (writerAt (a .w) (now (a .escape))) [] (joiner (a .owed)) in
-    (p .0, (p .1 .0, omega (arith, p .1 .1, first-fits first putCrlf)))
+    let first = stepsOf (a .mode) (machineAt (a .w) (now (a .escape))) [] (joiner (a .owed)) in
+    (s .pre .0, omega (arith, s .pre .1, first-fits first putCrlf))
 
 enum-told : tie.Need-enum-told
 enum-told c = search needs
 
 returns : tie.Need-returns
 returns c =
-    let s = c .before .before .before .before .before .before .before .before .before .before .before .before in
-    let a = s .args in
-    let first = stepsOf (writerAt (a .w) (now (a .escape))) [] (joiner (a .owed)) in
-    let e = rw (c .before .before2 .given .1) at (c .before .before .before .before .before .before .before .push-joiner .ensures) in
-    rw (← on-then (a .w .at) (now (a .out)) putCrlf first _ _ _ e) (unfold writerAt in simp add-one)
+    let j = c .before .before .before .before .before in
+    let a = j .before .before .before .before .args in
+    let first = stepsOf (a .mode) (machineAt (a .w) (now (a .escape))) [] (joiner (a .owed)) in
+    let e = rw (c .before .before2 .given .1) at (j .push-joiner .ensures) in
+    rw (← on-then (a .w .at) (now (a .out)) putCrlf first _ _ _ e) (unfold machineAt in simp add-one)
 
 returns-2 : tie.Need-returns-2
 returns-2 c =
-    let s = c .before .before .before .before .before .before .before .before .before .before .before in
-    let a = s .args in
-    let first = stepsOf (writerAt (a .w) (now (a .escape))) [] (joiner (a .owed)) in
-    let e = rw (c .enum-told .given .1) at (c .before .before .before .before .before .before .push-joiner .ensures) in
+    let j = c .before .before .before .before in
+    let a = j .before .before .before .before .args in
+    let first = stepsOf (a .mode) (machineAt (a .w) (now (a .escape))) [] (joiner (a .owed)) in
+    let e = rw (c .enum-told .given .1) at (j .push-joiner .ensures) in
     rw (c .enum-told .given .1) (off-then (a .w .at) (now (a .out)) putCrlf first _ (c .enum-told .given .0 .1 .0) _ _ e)
 
 pub line-end-spec : {M : Type 1} → statement M
@@ -78,8 +78,6 @@ line-end-spec =
     (λ c. omega (arith, fits c))
     enum-told
     (λ c. search needs)
-    (λ c. search needs)
     returns
-    (λ c. search needs)
     (λ c. search needs)
     returns-2)

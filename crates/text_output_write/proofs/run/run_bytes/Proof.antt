@@ -1,99 +1,79 @@
--- `run_bytes` meets its contract. The loop's invariant is that of `run`, on the characters that are left at the place at hand. The
--- measure is how many bytes are left.
+-- `run_bytes` meets its contract: its loop goes the way of proofs/Runs.antt, over the characters that are left at a place of the bytes.
+-- The measure is how many bytes are left.
 use Prim.Native.Nat.{_-_}
-use mathlib.Core.Path.{sym, _∙_}
+use mathlib.Core.Path.{_≡_, refl, sym, _∙_}
+use mathlib.Core.List.{[]}
 use native.Mathlib.Omega.{arith}
 use denote.Ref.{now}
 use lib.ListN.{length}
 use borrow.Author.Needs.{needs}
 use Rattle.unicode.specs.Utf8.{charsOf}
 use Rattle.unicode.proofs.Texts.{step-on}
-use Rattle.text_output_write.specs.Inner.{writerAt}
-use Rattle.text_output_write.proofs.Rest.{run-rest}
-use Rattle.text_output_write.proofs.Runs.{GoingBytes, begin, again, stopped, ended, turn-room, finish-room, left-begin, left-on, left-stop}
+use Rattle.text_output_write.proofs.Runs.{LeftOn, Going, begin, again, stopped, ended, turn-asks, finish-asks, Bytes, bytes-begin, bytes-on, bytes-end}
 use Rattle.text_output_write.proofs.run.run_bytes.Statement.{statement}
 use Rattle.text_output_write.proofs.run.run_bytes.Tie as tie
 
 abbrev Inv-loop : tie.InvT-loop
-Inv-loop page bytes escape₀ out₀ crlf w₀ isolator₀ place₀ escape out w isolator place =
-    GoingBytes page crlf w₀ escape₀ out₀ bytes w isolator place escape out
+Inv-loop page mode bytes escape₀ out₀ w₀ isolator₀ place₀ escape out w isolator place =
+    Going (Bytes bytes) page mode w₀ escape₀ out₀ (charsOf bytes) w isolator place escape out
 
 abbrev μ-loop : tie.MeasureT-loop
-μ-loop page bytes escape₀ out₀ crlf w₀ isolator₀ place₀ escape out w isolator place = length bytes - place
+μ-loop page mode bytes escape₀ out₀ w₀ isolator₀ place₀ escape out w isolator place = length bytes - place
+
+-- in the loop, from its head on: a character begins, or none does
+abbrev entry : tie.At-loop Inv-loop μ-loop → tie.Start Inv-loop μ-loop
+entry h = h .before .before .before .before .before
+
+on : (l : tie.After-c Inv-loop μ-loop) →
+    let h = l .before .before .before in
+    LeftOn (Bytes (now (entry h .args .bytes))) (l .c .given .0 .0) (l .c .given .0 .1 .0) (h .loop .inv .cs)
+on l =
+    let u = l .before .before in bytes-on _ _ _ _ _ (u .before .loop .inv .left) (sym (u .utf8-step .ensures) ∙ l .c .given .1)
+
+none : (l : tie.After-enum-told Inv-loop μ-loop) → l .before .before .before .loop .inv .cs ≡ []
+none l =
+    let u = l .before .before in bytes-end _ _ _ (u .before .loop .inv .left) (sym (u .utf8-step .ensures) ∙ l .enum-told .given .1)
 
 loop-holds : tie.Need-loop-holds Inv-loop μ-loop
 loop-holds c =
-    let p = c .before .before .before .before .before .before .pre in
-    record { rest = _; left = left-begin _; going = rw (c .new .ensures) (begin _ _ _ _ _ _ (p .1 .0) (p .1 .1 .0)) }
+    begin (c .before .before .before .before .pre) (bytes-begin _) _ (c .new .ensures)
 
 enum-told : tie.Need-enum-told Inv-loop μ-loop
 enum-told c = search needs
 
 turn-requires : tie.Need-turn-requires Inv-loop μ-loop
 turn-requires c κs =
-    let s = c .before .before .before .before .before .before .before .before .before .before .before .before .before in
-    let a = s .args in
-    let is = run-rest (a .start .mode) (now (a .page)) (writerAt (a .start) (now (a .escape))) (charsOf (now (a .bytes))) in
-    let p = s .pre in
-    let i = c .before .before .before .before .before .before .loop .inv in
-    let on = left-on _ _ _ _ _ (i .left) (sym (c .before .before .before .before .before .utf8-step .ensures) ∙ c .before .before .before .c .given .1) in
-    let g = rw (on .is) at (i .going) in
-    let room = rw (is, ← c .before .before .before .before .before .before .before .before .is-crlf .ensures) at (p .1 .1 .1) in
-    (p .0, (g .is-sound, (g .long, turn-room _ _ _ _ _ _ _ _ _ _ _ _ g room)))
+    let l = c .before .before .before in
+    let h = l .before .before .before in
+    turn-asks (h .loop .inv) (on l) (entry h .pre)
 
 loop-less : tie.Need-loop-less Inv-loop μ-loop
 loop-less c =
-    omega (arith, step-on _ _ _ _ (sym (c .before .before .before .before .before .before .before .before .before .before .before .before .before .before .utf8-step .ensures) ∙ c .before .before .before .before .before .before .before .before .before .before .before .before .c .given .1))
+    let l = c .before .before .before .before .before .before .before .before .before .before in omega (arith, step-on _ _ _ _ (sym (l .before .before .utf8-step .ensures) ∙ l .c .given .1))
 
 loop-again : tie.Need-loop-again Inv-loop μ-loop
 loop-again c =
-    let i = c .before .before .before .before .before .before .before .before .before .before .before .before .before .before .before .loop .inv in
-    let on = left-on _ _ _ _ _ (i .left) (sym (c .before .before .before .before .before .before .before .before .before .before .before .before .before .before .utf8-step .ensures) ∙ c .before .before .before .before .before .before .before .before .before .before .before .before .c .given .1) in
-    let g = rw (on .is) at (i .going) in
-    let t = c .before .before .before .before .before .before .before .before .turn .ensures in
-    record {
-      rest = on .behind;
-      left = on .left;
-      going = rw (t .1) (again _ _ _ _ _ _ _ _ _ _ _ _ g _ _ _ (rw (c .before .pushed .given .1) at (t .0)));
-    }
-
-same-length : tie.Need-same-length Inv-loop μ-loop
-same-length c =
-    omega (arith, c .before .before .before .before .before .before .before .before .before .before .before .before .before .before .before .before .before .before .before .before .before .pre .1 .1 .0, c .before .before .before .before .before .before .before .before .before .before .before .before .before .before .loop .inv .going .long)
+    let t = c .before .before .before .before .before .before in
+    let l = t .before .before .before .before in
+    again (l .before .before .before .loop .inv) (on l) (rw (c .before .pushed .given .1) at (t .turn .ensures .0)) (t .turn .ensures .1)
 
 returns : tie.Need-returns Inv-loop μ-loop
 returns c =
-    let s = c .before .before .before .before .before .before .before .before .before .before .before .before .before .before .before .before .before .before .before .before .before in
-    let a = s .args in
-    let is = run-rest (a .start .mode) (now (a .page)) (writerAt (a .start) (now (a .escape))) (charsOf (now (a .bytes))) in
-    let i = c .before .before .before .before .before .before .before .before .before .before .before .before .before .before .loop .inv in
-    let on = left-on _ _ _ _ _ (i .left) (sym (c .before .before .before .before .before .before .before .before .before .before .before .before .before .utf8-step .ensures) ∙ c .before .before .before .before .before .before .before .before .before .before .before .c .given .1) in
-    let g = rw (on .is) at (i .going) in
-    let told = c .enum-told2 .given .1 in
-    rw (is, ← c .before .before .before .before .before .before .before .before .before .before .before .before .before .before .before .before .is-crlf .ensures, told)
-    (stopped _ _ _ _ _ _ _ _ _ _ _ _ g _ (c .enum-told2 .given .0 .1 .0) _ _ (rw told at (c .before .before .before .before .before .before .before .turn .ensures .0)))
+    let t = c .before .before .before .before .before in
+    let l = t .before .before .before .before in
+    rw (c .enum-told2 .given .1) (stopped (l .before .before .before .loop .inv) (on l) (rw (c .enum-told2 .given .1) at (t .turn .ensures .0)) refl)
 
 finish-requires : tie.Need-finish-requires Inv-loop μ-loop
 finish-requires c κs =
-    let s = c .before .before .before .before .before .before .before .before .before .before .before .before in
-    let a = s .args in
-    let is = run-rest (a .start .mode) (now (a .page)) (writerAt (a .start) (now (a .escape))) (charsOf (now (a .bytes))) in
-    let p = s .pre in
-    let i = c .before .before .before .before .before .loop .inv in
-    let none = left-stop _ _ _ (i .left) (sym (c .before .before .before .before .utf8-step .ensures) ∙ c .before .before .enum-told .given .1) in
-    let g = rw none at (i .going) in
-    let room = rw (is, ← c .before .before .before .before .before .before .before .is-crlf .ensures) at (p .1 .1 .1) in
-    (g .is-sound, (g .long, finish-room _ _ _ _ _ _ _ _ _ _ g room))
+    let l = c .before .before in
+    let h = l .before .before .before in
+    finish-asks (h .loop .inv) (none l) (entry h .pre)
 
 returns-2 : tie.Need-returns-2 Inv-loop μ-loop
 returns-2 c =
-    let s = c .before .before .before .before .before .before .before .before .before .before .before .before .before .before .before .before .before in
-    let a = s .args in
-    let is = run-rest (a .start .mode) (now (a .page)) (writerAt (a .start) (now (a .escape))) (charsOf (now (a .bytes))) in
-    let i = c .before .before .before .before .before .before .before .before .before .before .loop .inv in
-    let none = left-stop _ _ _ (i .left) (sym (c .before .before .before .before .before .before .before .before .before .utf8-step .ensures) ∙ c .before .before .before .before .before .before .before .enum-told .given .1) in
-    let g = rw none at (i .going) in
-    rw (is, ← c .before .before .before .before .before .before .before .before .before .before .before .before .is-crlf .ensures) (ended _ _ _ _ _ _ _ _ _ _ g _ (c .before .before .before .before .finish .ensures))
+    let f = c .before .before in
+    let l = f .before .before .before in
+    ended (l .before .before .before .loop .inv) (none l) (f .finish .ensures)
 
 pub run-bytes-spec : {M : Type 1} → statement M
 run-bytes-spec =
@@ -101,7 +81,6 @@ run-bytes-spec =
     (tie.spec
     Inv-loop
     μ-loop
-    (λ c κs. search needs)
     (λ c κs. search needs)
     loop-holds
     (λ c κs. search needs)
@@ -112,10 +91,8 @@ run-bytes-spec =
     loop-less
     loop-again
     (λ c. search needs)
-    same-length
     (λ c. search needs)
     returns
     finish-requires
-    (λ c. search needs)
     (λ c. search needs)
     returns-2)

@@ -5,8 +5,8 @@ use native.Mathlib.Omega.{arith}
 use borrow.Author.Tests.{lt-ltb, le-ltb}
 use Rattle.common.proofs.Kit.{by-lt}
 use Rattle.text_output.specs.Write.{placesForWrite}
-use Rattle.text_output_write.proofs.is_short.Statement.{statement}
-use Rattle.text_output_write.proofs.is_short.Tie as tie
+use Rattle.text_output_write.proofs.refusal.is_short.Statement.{statement}
+use Rattle.text_output_write.proofs.refusal.is_short.Tie as tie
 
 returns : tie.Need-returns
 returns c =
