@@ -2,7 +2,7 @@
 --     numbers-sets, tail-sets    the bytes of numbers, stored, are the numbers stored, and the bytes past the last whole four stay
 --     take-wide, take-fits      the first of some numbers
 --     moved                     what some steps stored in places of their own, moved behind k numbers, is what they store there
---     own-writer, own-at        the steps from a place of their own
+--     own-machine, own-at        the steps from a place of their own
 --     turn-few, finish-few      a turn stores at most 67 characters, and the end one
 --     with-tail                 a queue is its numbers and the bytes past the last whole four
 use Prim.Native.Nat.{ℕ, zero, suc, _+_, _*_, _≤_, _<_}
@@ -21,13 +21,13 @@ use Rattle.common.proofs.Lists.{drop-sets, take-first}
 use Rattle.isolate_unassigned.specs.declared.IsolateUnassigned.{IsolateUnassigned}
 use Rattle.isolate_unassigned.specs.Isolate.{lastOwed}
 use Rattle.isolate_unassigned.proofs.Laws.{lastOwed-size}
-use Rattle.text_output.specs.declared.TextOutput.{TextOutput}
+use Rattle.text_output.specs.declared.Mode.{Mode}
 use Rattle.text_output_write.specs.declared.store.Place.{Place}
 use Rattle.text_output_write.specs.declared.store.Pushed.{Pushed}
 use Rattle.text_output_write.specs.declared.store.Pushed.the-variants.{On, Stopped}
-use Rattle.text_output.specs.Writer.{heldIn, sound}
+use Rattle.text_output.specs.Writer.{Machine, heldIn, sound}
 use Rattle.text_output.specs.Step.{Stepped, stepsOf}
-use Rattle.text_output_write.specs.Inner.{Progress, writerAt, pushed, stored, progress, turnOf}
+use Rattle.text_output_write.specs.Inner.{Progress, machineAt, pushed, stored, progress, turnOf}
 use Rattle.text_output_write.proofs.Stays.{steps-stay, turn-sound}
 use Rattle.basic_text.specs.Exports.{numberOf, numbersOf, bytesOf}
 use Rattle.basic_text.specs.Inner.{tail, atPlace, placeIn, behindOf}
@@ -82,8 +82,8 @@ with-tail q q₀ b l t =
 moved-by : (k : ℕ) (x : Pushed) (escape few places : List ℕ) →
     progress (behindOf k x) escape places
     ≡ (let y = progress x escape few in
-    record { going = y .going; at = k + y .at; writer = y .writer; refusal = y .refusal; places = places })
-unfolding writerAt atPlace
+    record { going = y .going; at = k + y .at; machine = y .machine; refusal = y .refusal; places = places })
+unfolding machineAt atPlace
 moved-by k (On w) escape few places = refl
 moved-by k (Stopped w stop) escape few places = refl
 
@@ -113,28 +113,28 @@ module _ (x : Pushed) (escape few few₀ : List ℕ) (s : Stepped) (e : progress
       progress (behindOf k x) escape places ≡ stored k places₀ s
   moved h k places₀ places q =
       moved-by k x escape few places
-      ∙ ap (λ (y : Progress). record { going = y .going; at = k + y .at; writer = y .writer; refusal = y .refusal; places = places }) e
+      ∙ ap (λ (y : Progress). record { going = y .going; at = k + y .at; machine = y .machine; refusal = y .refusal; places = places }) e
       ∙ rw (zero-add, q, few-holds h) refl
 
 -- ---- how many
-held-most : (w : TextOutput) → sound w ≡ true → w .held ≤ 64
-held-most w s = leb-true (w .held) 64 (both-true (leb (w .held) 64) (heldIn (w .state) (w .held)) s .0)
+held-most : (m : Machine) → sound m ≡ true → m .held ≤ 64
+held-most m s = leb-true (m .held) 64 (both-true (leb (m .held) 64) (heldIn (m .state) (m .held)) s .0)
 
-pub turn-few : (crlf : Bool) (p : List ℕ) (w : TextOutput) (r : IsolateUnassigned) (c : ℕ) → sound w ≡ true →
-    length (pushed (turnOf crlf p w r c)) ≤ 67
-turn-few crlf p w r c s = omega (arith, turn-sound crlf p c w r s .size, lastOwed-size r, held-most w s)
+pub turn-few : (mode : Mode) (p : List ℕ) (m : Machine) (r : IsolateUnassigned) (c : ℕ) → sound m ≡ true →
+    length (pushed (turnOf mode p m r c)) ≤ 67
+turn-few mode p m r c s = omega (arith, turn-sound mode p c m r s .size, lastOwed-size r, held-most m s)
 
-pub finish-few : (w : TextOutput) (r : IsolateUnassigned) → sound w ≡ true → length (pushed (stepsOf w [] (lastOwed r))) ≤ 67
-finish-few w r s = omega (arith, steps-stay (lastOwed r) w [] s .size, lastOwed-size r, held-most w s)
+pub finish-few : (mode : Mode) (m : Machine) (r : IsolateUnassigned) → sound m ≡ true → length (pushed (stepsOf mode m [] (lastOwed r))) ≤ 67
+finish-few mode m r s = omega (arith, steps-stay mode (lastOwed r) m [] s .size, lastOwed-size r, held-most m s)
 
-first-place : (w : Place) (escape : List ℕ) → writerAt (atPlace w 0) escape ≡ writerAt w escape
-unfolding writerAt atPlace
+first-place : (w : Place) (escape : List ℕ) → machineAt (atPlace w 0) escape ≡ machineAt w escape
+unfolding machineAt atPlace
 first-place w escape = refl
 
 -- from a place of one's own
 module _ (w r : Place) (e : r ≡ atPlace w 0) where
-  pub own-writer : (escape : List ℕ) → writerAt r escape ≡ writerAt w escape
-  own-writer escape = rw e (first-place w escape)
+  pub own-machine : (escape : List ℕ) → machineAt r escape ≡ machineAt w escape
+  own-machine escape = rw e (first-place w escape)
 
   pub own-at : r .at ≡ 0
   unfolding atPlace

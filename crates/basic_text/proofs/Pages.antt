@@ -20,8 +20,8 @@ use Rattle.text_input.specs.declared.Scanned.{Scanned}
 use Rattle.text_input.specs.Scan.{Outcome, outcome, refusalOf, scanOf}
 use Rattle.text_output.specs.declared.TextOutput.{TextOutput}
 use Rattle.text_output.specs.declared.WrittenBytes.{WrittenBytes}
-use Rattle.text_output.specs.Writer.{BytesOutcome, bytesOutcome, sound}
-use Rattle.text_output.specs.Write.{writeRefusal, writeStrOf, writeOf}
+use Rattle.text_output.specs.Writer.{BytesOutcome, bytesOutcome, machineOf, sound}
+use Rattle.text_output.specs.Write.{writeRefusal, writeOf}
 use Rattle.basic_text.specs.declared.Reply.{Reply}
 use Rattle.basic_text.specs.declared.WriteReply.{WriteReply}
 use Rattle.basic_text.specs.Exports.{numbersOf, pageOf, replyOf, writeReplyOf, bytesOf}
@@ -89,8 +89,8 @@ scan-reply r s o u p all n chunk queue e f g x q reply a h =
 -- by two pages that are not accepted a write is refused alike
 write-wrong : (p q : List ℕ) → accepted p ≡ false → accepted q ≡ false → (w : TextOutput) (bytes queue : List ℕ) →
     writeOf w p bytes queue ≡ writeOf w q bytes queue
-unfolding writeOf writeStrOf writeRefusal
-write-wrong p q e f w bytes queue = by (sound w) (λ s. simp (s, e, f)) (λ s. simp (s, e, f))
+unfolding writeOf writeRefusal
+write-wrong p q e f w bytes queue = by (sound (machineOf w)) (λ s. simp (s, e, f)) (λ s. simp (s, e, f))
 
 write-read : (w v : TextOutput) (p all : List ℕ) (n : ℕ) (bytes queue : List ℕ) → v ≡ w → take n all ≡ fitting p →
     writeOf v (take (n - 0) (drop 0 all)) bytes queue ≡ writeOf w p bytes queue

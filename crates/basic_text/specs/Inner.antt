@@ -25,8 +25,7 @@ tail queue = drop (4 * length (numbersOf queue)) queue
 
 -- the place, moved
 unfoldable pub atPlace : Place → ℕ → Place
-atPlace w at =
-    record { mode = w .mode; «expect_starter» = w .«expect_starter»; state = w .state; kept = w .kept; held = w .held; at = at }
+atPlace w at = record { state = w .state; held = w .held; at = at }
 
 -- where some steps stand
 abbrev pub placeIn : Pushed → Place

@@ -3,6 +3,7 @@
 use super::numbers::read_number;
 use super::numbers::write_numbers;
 use isolate_unassigned::IsolateUnassigned;
+use text_output::Mode;
 use text_output::TextOutput;
 use text_output::WrittenBytes;
 use text_output_write::Place;
@@ -11,11 +12,11 @@ use text_output_write::Turned;
 use text_output_write::bytes_refusal;
 use text_output_write::end_write;
 use text_output_write::finish;
-use text_output_write::is_crlf;
 use text_output_write::place_of;
-use text_output_write::refused_bytes;
+use text_output_write::refused_write;
 use text_output_write::taking;
 use text_output_write::turn;
+use text_output_write::write_refusal;
 use unicode::Utf8Step;
 use unicode::utf8_step;
 use unicode::valid_prefix;
@@ -31,7 +32,7 @@ ghost use Rattle.isolate_unassigned.specs.Isolate.{lastOwed};
 ghost use Rattle.text_output.specs.Writer.{sound, bytesOutcome};
 ghost use Rattle.text_output.specs.Step.{stepsOf};
 ghost use Rattle.text_output.specs.Write.{runIn, writeOf};
-ghost use Rattle.text_output_write.specs.Inner.{writerAt, pushed, stored, progress, turnOf, isolatorAfter};
+ghost use Rattle.text_output_write.specs.Inner.{machineAt, pushed, stored, progress, turnOf, isolatorAfter};
 ghost use Rattle.basic_text.specs.Exports.{numbersOf, bytesOf};
 ghost use Rattle.basic_text.specs.Inner.{tail, atPlace, placeIn, behindOf};
 
@@ -49,13 +50,9 @@ fn store_numbers(queue: &mut [u8], k: usize, from: &[u32], n: usize)
 fn at_place(w: Place, at: usize) -> Place
     ensures { λ r. ⌜ r ≡ atPlace w at ⌝ }
 {
-    let mode = w.mode;
     let state = w.state;
     Place {
-        mode,
-        expect_starter: w.expect_starter,
         state,
-        kept: w.kept,
         held: w.held,
         at,
     }
@@ -86,28 +83,27 @@ fn move_behind(pushed: Pushed, k: usize, few: &[u32], queue: &mut [u8]) -> Pushe
 // One character of a write. Inner, as `text_output_write::turn`.
 fn turn_bytes(
     page: &[u32],
-    crlf: bool,
+    mode: Mode,
     w: Place,
     isolator: IsolateUnassigned,
     c: u32,
-    escape: &mut [u32],
+    escape: &mut [u32; 64],
     queue: &mut [u8],
 ) -> Turned
     requires page { ⌜ accepted (now page) ≡ true ⌝ }
-    requires sound { ⌜ sound (writerAt w (now escape)) ≡ true ⌝ }
-    requires long { ⌜ length (now escape) ≡ 64 ⌝ }
+    requires sound { ⌜ sound (machineAt w (now escape)) ≡ true ⌝ }
     requires room { ⌜
-        w .at + length (pushed (turnOf crlf (now page) (writerAt w (now escape)) isolator c)) ≤ length (numbersOf (now queue))
+        w .at + length (pushed (turnOf mode (now page) (machineAt w (now escape)) isolator c)) ≤ length (numbersOf (now queue))
         ⌝ }
     ensures steps { λ r. ⌜
         progress (r .pushed) (now (escape .exit)) (numbersOf (now (queue .exit)))
-        ≡ stored (w .at) (numbersOf (now (queue .entry))) (turnOf crlf (now (page .entry)) (writerAt w (now (escape .entry))) isolator c)
+        ≡ stored (w .at) (numbersOf (now (queue .entry))) (turnOf mode (now (page .entry)) (machineAt w (now (escape .entry))) isolator c)
         ⌝ }
-    ensures isolator { λ r. ⌜ r .isolator ≡ isolatorAfter crlf (now (page .entry)) isolator c ⌝ }
+    ensures isolator { λ r. ⌜ r .isolator ≡ isolatorAfter mode (now (page .entry)) isolator c ⌝ }
     ensures tail { λ r. ⌜ tail (now (queue .exit)) ≡ tail (now (queue .entry)) ⌝ }
 {
     let mut few = [0u32; 67];
-    let turned = turn(page, crlf, at_place(w, 0), isolator, c, escape, &mut few);
+    let turned = turn(page, mode, at_place(w, 0), isolator, c, escape, &mut few);
     let pushed = turned.pushed;
     let after = turned.isolator;
     Turned {
@@ -118,24 +114,24 @@ fn turn_bytes(
 
 // The 34F that the isolator owes at the end. Inner, as `text_output_write::finish`.
 fn finish_bytes(
+    mode: Mode,
     w: Place,
     isolator: IsolateUnassigned,
-    escape: &mut [u32],
+    escape: &mut [u32; 64],
     queue: &mut [u8],
 ) -> Pushed
-    requires sound { ⌜ sound (writerAt w (now escape)) ≡ true ⌝ }
-    requires long { ⌜ length (now escape) ≡ 64 ⌝ }
+    requires sound { ⌜ sound (machineAt w (now escape)) ≡ true ⌝ }
     requires room { ⌜
-        w .at + length (pushed (stepsOf (writerAt w (now escape)) [] (lastOwed isolator))) ≤ length (numbersOf (now queue))
+        w .at + length (pushed (stepsOf mode (machineAt w (now escape)) [] (lastOwed isolator))) ≤ length (numbersOf (now queue))
         ⌝ }
     ensures steps { λ r. ⌜
         progress r (now (escape .exit)) (numbersOf (now (queue .exit)))
-        ≡ stored (w .at) (numbersOf (now (queue .entry))) (stepsOf (writerAt w (now (escape .entry))) [] (lastOwed isolator))
+        ≡ stored (w .at) (numbersOf (now (queue .entry))) (stepsOf mode (machineAt w (now (escape .entry))) [] (lastOwed isolator))
         ⌝ }
     ensures tail { λ r. ⌜ tail (now (queue .exit)) ≡ tail (now (queue .entry)) ⌝ }
 {
     let mut few = [0u32; 67];
-    let pushed = finish(at_place(w, 0), isolator, escape, &mut few);
+    let pushed = finish(mode, at_place(w, 0), isolator, escape, &mut few);
     move_behind(pushed, w.at, &few, queue)
 }
 
@@ -143,26 +139,24 @@ fn finish_bytes(
 // leads to the same end.
 fn run_write(
     page: &[u32],
+    mode: Mode,
     start: Place,
     bytes: &[u8],
-    escape: &mut [u32],
+    escape: &mut [u32; 64],
     queue: &mut [u8],
 ) -> Pushed
     requires page { ⌜ accepted (now page) ≡ true ⌝ }
-    requires sound { ⌜ sound (writerAt start (now escape)) ≡ true ⌝ }
-    requires long { ⌜ length (now escape) ≡ 64 ⌝ }
+    requires sound { ⌜ sound (machineAt start (now escape)) ≡ true ⌝ }
     requires room { ⌜
-        start .at + length (pushed (runIn (start .mode) (now page) (writerAt start (now escape)) (charsOf (now bytes))))
+        start .at + length (pushed (runIn mode (now page) (machineAt start (now escape)) (charsOf (now bytes))))
         ≤ length (numbersOf (now queue))
         ⌝ }
     ensures steps { λ r. ⌜
         progress r (now (escape .exit)) (numbersOf (now (queue .exit)))
-        ≡ stored (start .at) (numbersOf (now (queue .entry))) (runIn (start .mode) (now (page .entry)) (writerAt start (now (escape .entry))) (charsOf (now (bytes .entry))))
+        ≡ stored (start .at) (numbersOf (now (queue .entry))) (runIn mode (now (page .entry)) (machineAt start (now (escape .entry))) (charsOf (now (bytes .entry))))
         ⌝ }
     ensures tail { λ r. ⌜ tail (now (queue .exit)) ≡ tail (now (queue .entry)) ⌝ }
 {
-    let mode = start.mode;
-    let crlf = is_crlf(mode);
     let mut w = start;
     let mut isolator = IsolateUnassigned::new();
     let mut place = 0;
@@ -171,7 +165,7 @@ fn run_write(
             break;
         };
         place = next_place;
-        let turned = turn_bytes(page, crlf, w, isolator, c, escape, queue);
+        let turned = turn_bytes(page, mode, w, isolator, c, escape, queue);
         let pushed = turned.pushed;
         let after = turned.isolator;
         match pushed {
@@ -184,7 +178,7 @@ fn run_write(
             }
         }
     }
-    finish_bytes(w, isolator, escape, queue)
+    finish_bytes(mode, w, isolator, escape, queue)
 }
 
 // The first number of the queue, 0 where there is none.
@@ -208,13 +202,15 @@ pub fn write(w: TextOutput, page: &[u32], bytes: &[u8], queue: &mut [u8]) -> Wri
         ⌝ }
 {
     let prefix = valid_prefix(bytes);
-    let no = bytes_refusal(w, page, 0 < bytes.len(), prefix.chars, queue.len() / 4);
-    if no != 0 {
-        return refused_bytes(w, no);
+    let values = bytes_refusal(bytes.len(), prefix.chars);
+    let refusal = write_refusal(w, page, values, prefix.chars, queue.len() / 4);
+    if refusal != 0 {
+        return taking(prefix.bytes, refused_write(w, refusal));
     }
+    let mode = w.mode;
     let mut escape = w.escape_sequence;
-    let pushed = run_write(page, place_of(w), bytes, &mut escape, queue);
+    let pushed = run_write(page, mode, place_of(w), bytes, &mut escape, queue);
     let first = first_number(queue);
-    let written = end_write(page, pushed, escape, first);
+    let written = end_write(page, mode, w.expect_starter, pushed, escape, first);
     taking(prefix.bytes, written)
 }

@@ -1,124 +1,96 @@
--- `run_write` meets its contract. The loop's invariant is that of `run_bytes` of text_output_write, on the queue's numbers; the bytes past
--- them stay. The measure is how many bytes are left.
+-- `run_write` meets its contract: its loop goes the way of proofs/Runs.antt of text_output_write, over the characters that are left at a
+-- place of the bytes, on the queue's numbers; the bytes past these stay. The measure is how many bytes are left.
 use Prim.Native.Nat.{_-_}
 use mathlib.Core.Path.{_≡_, refl, sym, _∙_}
+use mathlib.Core.List.{[]}
 use native.Mathlib.Omega.{arith}
 use denote.Ref.{now}
 use lib.ListN.{length}
 use borrow.Author.Needs.{needs}
 use Rattle.unicode.specs.Utf8.{charsOf}
 use Rattle.unicode.proofs.Texts.{step-on}
-use Rattle.text_output_write.specs.Inner.{writerAt}
-use Rattle.text_output_write.proofs.Rest.{run-rest}
-use Rattle.text_output_write.proofs.Runs.{GoingBytes, begin, again, stopped, ended, turn-room, finish-room, left-begin, left-on, left-stop}
+use Rattle.text_output_write.proofs.Runs.{LeftOn, Going, begin, again, stopped, ended, turn-asks, finish-asks, Bytes, bytes-begin, bytes-on, bytes-end}
 use Rattle.basic_text.specs.Exports.{numbersOf}
 use Rattle.basic_text.specs.Inner.{tail}
 use Rattle.basic_text.proofs.writing.run_write.Statement.{statement}
 use Rattle.basic_text.proofs.writing.run_write.Tie as tie
 
 abbrev Inv-loop : tie.InvT-loop
-Inv-loop page bytes escape₀ queue₀ crlf w₀ isolator₀ place₀ escape queue w isolator place =
+Inv-loop page mode bytes escape₀ queue₀ w₀ isolator₀ place₀ escape queue w isolator place =
     (tail queue ≡ tail queue₀)
-    × ((length queue ≡ length queue₀) × GoingBytes page crlf w₀ escape₀ (numbersOf queue₀) bytes w isolator place escape (numbersOf queue))
+    × ((length queue ≡ length queue₀)
+    × Going (Bytes bytes) page mode w₀ escape₀ (numbersOf queue₀) (charsOf bytes) w isolator place escape (numbersOf queue))
 
 abbrev μ-loop : tie.MeasureT-loop
-μ-loop page bytes escape₀ queue₀ crlf w₀ isolator₀ place₀ escape queue w isolator place = length bytes - place
+μ-loop page mode bytes escape₀ queue₀ w₀ isolator₀ place₀ escape queue w isolator place = length bytes - place
+
+-- in the loop, from its head on: a character begins, or none does
+abbrev entry : tie.At-loop Inv-loop μ-loop → tie.Start Inv-loop μ-loop
+entry h = h .before .before .before .before .before
+
+on : (l : tie.After-c Inv-loop μ-loop) →
+    let h = l .before .before .before in
+    LeftOn (Bytes (now (entry h .args .bytes))) (l .c .given .0 .0) (l .c .given .0 .1 .0) (h .loop .inv .1 .1 .cs)
+on l =
+    let u = l .before .before in
+    bytes-on _ _ _ _ _ (u .before .loop .inv .1 .1 .left) (sym (u .utf8-step .ensures) ∙ l .c .given .1)
+
+none : (l : tie.After-enum-told Inv-loop μ-loop) → l .before .before .before .loop .inv .1 .1 .cs ≡ []
+none l =
+    let u = l .before .before in
+    bytes-end _ _ _ (u .before .loop .inv .1 .1 .left) (sym (u .utf8-step .ensures) ∙ l .enum-told .given .1)
 
 loop-holds : tie.Need-loop-holds Inv-loop μ-loop
 loop-holds c =
-    let p = c .before .before .before .before .before .before .pre in
-    (refl, (refl, record { rest = _; left = left-begin _; going = rw (c .new .ensures) (begin _ _ _ _ _ _ (p .1 .0) (p .1 .1 .0)) }))
+    (refl, (refl, begin (c .before .before .before .before .pre) (bytes-begin _) _ (c .new .ensures)))
 
 enum-told : tie.Need-enum-told Inv-loop μ-loop
 enum-told c = search needs
 
 turn-bytes-requires : tie.Need-turn-bytes-requires Inv-loop μ-loop
 turn-bytes-requires c κs =
-    let s = c .before .before .before .before .before .before .before .before .before .before .before .before .before in
-    let a = s .args in
-    let is = run-rest (a .start .mode) (now (a .page)) (writerAt (a .start) (now (a .escape))) (charsOf (now (a .bytes))) in
-    let p = s .pre in
-    let i = c .before .before .before .before .before .before .loop .inv .1 .1 in
-    let on = left-on _ _ _ _ _ (i .left) (sym (c .before .before .before .before .before .utf8-step .ensures) ∙ c .before .before .before .c .given .1) in
-    let g = rw (on .is) at (i .going) in
-    let room = rw (is, ← c .before .before .before .before .before .before .before .before .is-crlf .ensures) at (p .1 .1 .1) in
-    (p .0, (g .is-sound, (g .long, turn-room _ _ _ _ _ _ _ _ _ _ _ _ g room)))
+    let l = c .before .before .before in
+    let h = l .before .before .before in
+    turn-asks (h .loop .inv .1 .1) (on l) (entry h .pre)
 
 loop-less : tie.Need-loop-less Inv-loop μ-loop
 loop-less c =
-    omega (arith, step-on _ _ _ _ (sym (c .before .before .before .before .before .before .before .before .before .before .before .before .before .before .utf8-step .ensures) ∙ c .before .before .before .before .before .before .before .before .before .before .before .before .c .given .1))
+    let l = c .before .before .before .before .before .before .before .before .before .before in omega (arith, step-on _ _ _ _ (sym (l .before .before .utf8-step .ensures) ∙ l .c .given .1))
 
 loop-again : tie.Need-loop-again Inv-loop μ-loop
 loop-again c =
-    let i = c .before .before .before .before .before .before .before .before .before .before .before .before .before .before .before .loop .inv .1 .1 in
-    let on = left-on _ _ _ _ _ (i .left) (sym (c .before .before .before .before .before .before .before .before .before .before .before .before .before .before .utf8-step .ensures) ∙ c .before .before .before .before .before .before .before .before .before .before .before .before .c .given .1) in
-    let g = rw (on .is) at (i .going) in
-    let l = c .before .before .before .before .before .before .before .before .before .before .before .before .before .before .before .loop .inv in
-    let t = c .before .before .before .before .before .before .before .before .turn-bytes .ensures in (
-      t .1 .1 ∙ l .0,
-      (
-        omega (arith, l .1 .0),
-        record {
-          rest = on .behind;
-          left = on .left;
-          going = rw (t .1 .0) (again _ _ _ _ _ _ _ _ _ _ _ _ g _ _ _ (rw (c .before .pushed .given .1) at (t .0)));
-        },
-      ),
-    )
+    let t = c .before .before .before .before .before .before in
+    let l = t .before .before .before .before in
+    let i = l .before .before .before .loop .inv in
+    let e = t .turn-bytes .ensures in
+    (e .1 .1 ∙ i .0, (omega (arith, i .1 .0), again (i .1 .1) (on l) (rw (c .before .pushed .given .1) at (e .0)) (e .1 .0)))
 
 same-length : tie.Need-same-length Inv-loop μ-loop
-same-length c =
-    omega (arith, c .before .before .before .before .before .before .before .before .before .before .before .before .before .before .before .before .before .before .before .before .before .pre .1 .1 .0, c .before .before .before .before .before .before .before .before .before .before .before .before .before .before .loop .inv .1 .1 .going .long)
-
-same-length-2 : tie.Need-same-length-2 Inv-loop μ-loop
-same-length-2 c =
-    omega (arith, c .before .before .before .before .before .before .before .before .before .before .before .before .before .before .loop .inv .1 .0)
+same-length c = omega (arith, c .before .before .before .before .before .before .before .before .before .before .before .before .loop .inv .1 .0)
 
 returns : tie.Need-returns Inv-loop μ-loop
 returns c =
-    let s = c .before .before .before .before .before .before .before .before .before .before .before .before .before .before .before .before .before .before .before .before .before in
-    let a = s .args in
-    let is = run-rest (a .start .mode) (now (a .page)) (writerAt (a .start) (now (a .escape))) (charsOf (now (a .bytes))) in
-    let i = c .before .before .before .before .before .before .before .before .before .before .before .before .before .before .loop .inv .1 .1 in
-    let on = left-on _ _ _ _ _ (i .left) (sym (c .before .before .before .before .before .before .before .before .before .before .before .before .before .utf8-step .ensures) ∙ c .before .before .before .before .before .before .before .before .before .before .before .c .given .1) in
-    let g = rw (on .is) at (i .going) in
-    let told = c .enum-told2 .given .1 in
-    let t = c .before .before .before .before .before .before .before .turn-bytes .ensures in (
-      rw (is, ← c .before .before .before .before .before .before .before .before .before .before .before .before .before .before .before .before .is-crlf .ensures, told)
-          (stopped _ _ _ _ _ _ _ _ _ _ _ _ g _ (c .enum-told2 .given .0 .1 .0) _ _ (rw told at (t .0))),
-      t .1 .1 ∙ c .before .before .before .before .before .before .before .before .before .before .before .before .before .before .loop .inv .0,
-    )
+    let t = c .before .before .before .before .before in
+    let l = t .before .before .before .before in
+    let i = l .before .before .before .loop .inv in
+    let e = t .turn-bytes .ensures in
+    (rw (c .enum-told2 .given .1) (stopped (i .1 .1) (on l) (rw (c .enum-told2 .given .1) at (e .0)) refl), e .1 .1 ∙ i .0)
 
 finish-bytes-requires : tie.Need-finish-bytes-requires Inv-loop μ-loop
 finish-bytes-requires c κs =
-    let s = c .before .before .before .before .before .before .before .before .before .before .before .before in
-    let a = s .args in
-    let is = run-rest (a .start .mode) (now (a .page)) (writerAt (a .start) (now (a .escape))) (charsOf (now (a .bytes))) in
-    let p = s .pre in
-    let i = c .before .before .before .before .before .loop .inv .1 .1 in
-    let none = left-stop _ _ _ (i .left) (sym (c .before .before .before .before .utf8-step .ensures) ∙ c .before .before .enum-told .given .1) in
-    let g = rw none at (i .going) in
-    let room = rw (is, ← c .before .before .before .before .before .before .before .is-crlf .ensures) at (p .1 .1 .1) in
-    (g .is-sound, (g .long, finish-room _ _ _ _ _ _ _ _ _ _ g room))
+    let l = c .before .before in
+    let h = l .before .before .before in
+    finish-asks (h .loop .inv .1 .1) (none l) (entry h .pre)
 
-same-length-3 : tie.Need-same-length-3 Inv-loop μ-loop
-same-length-3 c =
-    omega (arith, c .before .before .before .before .before .before .before .before .before .before .before .before .before .before .before .before .before .pre .1 .1 .0, c .before .before .before .before .before .before .before .before .before .before .loop .inv .1 .1 .going .long)
-
-same-length-4 : tie.Need-same-length-4 Inv-loop μ-loop
-same-length-4 c =
-    omega (arith, c .before .before .before .before .before .before .before .before .before .before .loop .inv .1 .0)
+same-length-2 : tie.Need-same-length-2 Inv-loop μ-loop
+same-length-2 c = omega (arith, c .before .before .before .before .before .before .before .before .loop .inv .1 .0)
 
 returns-2 : tie.Need-returns-2 Inv-loop μ-loop
 returns-2 c =
-    let s = c .before .before .before .before .before .before .before .before .before .before .before .before .before .before .before .before .before in
-    let a = s .args in
-    let is = run-rest (a .start .mode) (now (a .page)) (writerAt (a .start) (now (a .escape))) (charsOf (now (a .bytes))) in
-    let i = c .before .before .before .before .before .before .before .before .before .before .loop .inv .1 .1 in
-    let none = left-stop _ _ _ (i .left) (sym (c .before .before .before .before .before .before .before .before .before .utf8-step .ensures) ∙ c .before .before .before .before .before .before .before .enum-told .given .1) in
-    let g = rw none at (i .going) in
-    let f = c .before .before .before .before .finish-bytes .ensures in
-    (rw (is, ← c .before .before .before .before .before .before .before .before .before .before .before .before .is-crlf .ensures) (ended _ _ _ _ _ _ _ _ _ _ g _ (f .0)), f .1 ∙ c .before .before .before .before .before .before .before .before .before .before .loop .inv .0)
+    let f = c .before .before in
+    let l = f .before .before .before in
+    let i = l .before .before .before .loop .inv in
+    (ended (i .1 .1) (none l) (f .finish-bytes .ensures .0), f .finish-bytes .ensures .1 ∙ i .0)
 
 pub run-write-spec : {M : Type 1} → statement M
 run-write-spec =
@@ -126,7 +98,6 @@ run-write-spec =
     (tie.spec
     Inv-loop
     μ-loop
-    (λ c κs. search needs)
     (λ c κs. search needs)
     loop-holds
     (λ c κs. search needs)
@@ -138,9 +109,7 @@ run-write-spec =
     loop-again
     (λ c. search needs)
     same-length
-    same-length-2
     returns
     finish-bytes-requires
-    same-length-3
-    same-length-4
+    same-length-2
     returns-2)

@@ -6,11 +6,10 @@ use denote.Ref.{now}
 use lib.ListN.{length}
 use lib.Seq.{sets}
 use Rattle.unicode.specs.declared.utf8.Prefix.{Prefix}
-use Rattle.unicode.specs.Utf8.{charsOf}
-use Rattle.unicode.proofs.Texts.{longest}
+use Rattle.unicode.specs.Utf8.{charsOf, encodeAll}
 use Rattle.text_output.specs.Writer.{BytesOutcome}
-use Rattle.text_output.specs.Write.{taking}
-use Rattle.text_output_write.proofs.Entries.{bytes-refused, let-through, bytes-run, write-ends, end-anywhere, place-sound, place-fits, same-end, taken, refused-anywhere}
+use Rattle.text_output.specs.Write.{writeBytesRefusal, taking}
+use Rattle.text_output_write.proofs.Entries.{Through, let-through, bytes-refused, bytes-written, refused-anywhere, end-anywhere, place-asks, place-ends, taken}
 use Rattle.basic_text.specs.Exports.{numbersOf, bytesOf}
 use Rattle.basic_text.proofs.Laws.{Bytes, length-numbers, with-all}
 use Rattle.basic_text.proofs.Moved.{with-tail}
@@ -18,83 +17,78 @@ use borrow.Author.Needs.{needs}
 use Rattle.basic_text.proofs.writing.write.Statement.{statement}
 use Rattle.basic_text.proofs.writing.write.Tie as tie
 
--- the record has places for 64 held characters
-long : (s : tie.Start) → length (s .args .w .«escape_sequence») ≡ 64
-long s = search needs
+-- what refuses before the steps is known from here on
+abbrev entry : tie.After-write-refusal → tie.Start
+entry r = r .before .before .before .before .before .before
+
+refusal : (r : tie.After-write-refusal) →
+    let a = entry r .args in
+    r .write-refusal .result ≡ writeBytesRefusal (a .w) (now (a .page)) (now (a .bytes)) (length (numbersOf (now (a .queue))))
+refusal r =
+    rw (r .before .bytes-refusal .ensures, r .before .before .valid-prefix .ensures, ← length-numbers (now (entry r .args .queue))) at (r .write-refusal .ensures)
+
+none : (e : tie.Else1) → e .before .write-refusal .result ≡ 0
+none e = omega (arith, e .if1 .left)
+
+through : (e : tie.Else1) →
+    let a = entry (e .before) .args in
+    Through (a .w) (now (a .page)) (length (charsOf (now (a .bytes)))) (length (numbersOf (now (a .queue))))
+through e = let-through _ _ _ _ _ _ (refusal (e .before)) (none e)
+
+-- how many bytes the prefix has
+prefix : (r : tie.After-write-refusal) → r .before .before .valid-prefix .result .bytes ≡ length (encodeAll (charsOf (now (entry r .args .bytes))))
+prefix r = ap (λ (q : Prefix). q .bytes) (r .before .before .valid-prefix .ensures)
 
 returns : tie.Need-returns
 returns c =
-    let a = c .before .before .before .before .before .before .before .args in
+    let r = c .before .before .before in
+    let a = entry r .args in
     let w = a .w in
-    let p = now (a .page) in
     let bytes = now (a .bytes) in
     let queue = now (a .queue) in
     let out = numbersOf queue in
-    let no = rw (c .before .before .before .valid-prefix .ensures, ← length-numbers queue) at (c .before .before .bytes-refusal .ensures) in
-    let r = c .refused-bytes .ensures in
+    let t = c .taking .ensures in
     let is =
-    refused-anywhere (c .refused-bytes .result) w (c .before .before .bytes-refusal .result) out (r .0) (r .1)
-    ∙ bytes-refused w p bytes out _ no (omega (arith, c .before .if1 .taken)) in
-    let small : Bytes queue = λ i. omega (arith, c .before .before .before .before .slice-known .given i) in
+    taken (c .taking .result) (c .before .refused-write .result) _ out bytes (t .0) (t .1 .0) (t .1 .1) (prefix r)
+    ∙ ap (taking bytes) (refused-anywhere (c .before .refused-write .result) w (r .write-refusal .result) out (c .before .refused-write .ensures))
+    ∙ bytes-refused w (now (a .page)) bytes out _ (refusal r) (omega (arith, c .before .before .if1 .taken)) in
+    let small : Bytes queue = λ i. omega (arith, c .before .before .before .before .before .before .slice-known .given i) in
     (is, sym (with-all queue small) ∙ ap (λ (o : BytesOutcome). sets queue 0 (bytesOf (o .outcome .places))) is)
 
 run-write-requires : tie.Need-run-write-requires
 run-write-requires c κs =
-    let a = c .before .before .before .before .before .before .before .before .before .before .args in
-    let w = a .w in
-    let p = now (a .page) in
-    let bytes = now (a .bytes) in
-    let queue = now (a .queue) in
-    let out = numbersOf queue in
-    let no = rw (c .before .before .before .before .before .before .valid-prefix .ensures, ← length-numbers queue) at (c .before .before .before .before .before .bytes-refusal .ensures) in
-    let f = let-through w p bytes out _ no (omega (arith, c .before .before .before .before .if1 .left)) in
-    let r = c .before .before .place-of .result in
-    let e = c .before .before .place-of .ensures in
-    let cs = charsOf bytes in
-    (f .page, (place-sound w r (e .0) (e .1) p cs (f .is-sound), (long (c .before .before .before .before .before .before .before .before .before .before), place-fits w r (e .0) (e .1) p cs (length out) (f .is-sound) (f .fits))))
+    let e = c .before .before .before .before in
+    let a = entry (e .before) .args in
+    place-asks (a .w) _ (c .before .before .place-of .ensures) (now (a .page)) (charsOf (now (a .bytes))) (length (numbersOf (now (a .queue)))) (through e)
 
 end-write-requires : tie.Need-end-write-requires
-end-write-requires c κs =
-    let a = c .before .before .before .before .before .before .before .before .before .before .before .before .before .before .before .before .args in
-    let w = a .w in
-    let p = now (a .page) in
-    let bytes = now (a .bytes) in
-    let queue = now (a .queue) in
-    let out = numbersOf queue in
-    let no = rw (c .before .before .before .before .before .before .before .before .before .before .before .before .valid-prefix .ensures, ← length-numbers queue) at (c .before .before .before .before .before .before .before .before .before .before .before .bytes-refusal .ensures) in
-    let f = let-through w p bytes out _ no (omega (arith, c .before .before .before .before .before .before .before .before .before .before .if1 .left)) in
-    f .page
+end-write-requires c κs = through (c .before .before .before .before .before .before .before .before .before) .page
 
 returns-2 : tie.Need-returns-2
 returns-2 c =
-    let a = c .before .before .before .before .before .before .before .before .before .before .before .before .before .before .before .before .before .before .args in
+    let r = c .before .before .before .before .before .before in
+    let b = r .before .before .before in
+    let e = b .before .before in
+    let a = entry (e .before) .args in
     let w = a .w in
     let p = now (a .page) in
     let bytes = now (a .bytes) in
     let queue = now (a .queue) in
     let out = numbersOf queue in
-    let no = rw (c .before .before .before .before .before .before .before .before .before .before .before .before .before .before .valid-prefix .ensures, ← length-numbers queue) at (c .before .before .before .before .before .before .before .before .before .before .before .before .before .bytes-refusal .ensures) in
-    let f = let-through w p bytes out _ no (omega (arith, c .before .before .before .before .before .before .before .before .before .before .before .before .if1 .left)) in
-    let r = c .before .before .before .before .before .before .before .before .before .before .place-of .result in
-    let e = c .before .before .before .before .before .before .before .before .before .before .place-of .ensures in
-    let x = c .before .before .before .before .before .before .before .run-write .result in
-    let escape = c .before .before .before .before .before .before .before .run-write .last .1 .1 .1 .0 in
-    let after = c .before .before .before .before .before .before .before .run-write .last .1 .1 .1 .1 .0 in
-    let cs = charsOf bytes in
-    let t = c .taking .ensures in
-    let steps = c .before .before .before .before .before .before .before .run-write .ensures in
-    let n = ap (λ (q : Prefix). q .bytes) (c .before .before .before .before .before .before .before .before .before .before .before .before .before .before .valid-prefix .ensures) in
+    let x = r .run-write .result in
+    let escape = r .run-write .last .1 .1 .1 .1 .0 in
+    let after = r .run-write .last .1 .1 .1 .1 .1 .0 in
+    let t = c .taking2 .ensures in
     let written =
-    end-anywhere p (c .before .end-write .result) x escape _ (c .before .end-write .ensures .0) (numbersOf after) (c .before .before .first-number .ensures)
-    ∙ same-end w r (e .0) (e .1) p cs x escape (numbersOf after) out (steps .0)
-    ∙ write-ends w p cs out (f .is-sound) (f .page) (longest bytes .chars) (f .fits) in
+    end-anywhere p (w .mode) (w .«expect_starter») (c .before .end-write .result) x escape _ (c .before .end-write .ensures) (numbersOf after) (c .before .before .first-number .ensures)
+    ∙ place-ends w _ (b .place-of .ensures) p (charsOf bytes) x escape (numbersOf after) out (r .run-write .ensures .0) in
     let is =
-    taken (c .taking .result) (c .before .end-write .result) _ (numbersOf after) bytes (t .0) (t .1 .0) (t .1 .1) n
+    taken (c .taking2 .result) (c .before .end-write .result) _ (numbersOf after) bytes (t .0) (t .1 .0) (t .1 .1) (prefix (e .before))
     ∙ ap (taking bytes) written
-    ∙ bytes-run w p bytes out (f .is-sound) (f .page) (f .begins) in
+    ∙ bytes-written w p bytes out _ (refusal (e .before)) (none e) in
     let small : Bytes after = λ i. omega (arith, c .before .before .before .before .slice-known2 .given i) in
     let same : length after ≡ length queue = omega (arith, c .before .before .before .before .before .queue .given) in
-    (is, with-tail after queue small same (steps .1) ∙ ap (λ (o : BytesOutcome). sets queue 0 (bytesOf (o .outcome .places))) is)
+    (is, with-tail after queue small same (r .run-write .ensures .1) ∙ ap (λ (o : BytesOutcome). sets queue 0 (bytesOf (o .outcome .places))) is)
 
 pub write-spec : {M : Type 1} → statement M
 write-spec =
@@ -103,9 +97,10 @@ write-spec =
     (λ c κs. search needs)
     (λ c κs. search needs)
     (λ c κs. search needs)
+    (λ c κs. search needs)
+    (λ c κs. search needs)
     returns
     (λ c κs. search needs)
-    (λ c. search needs)
     run-write-requires
     (λ c κs. search needs)
     end-write-requires
