@@ -58,8 +58,8 @@ module _ (w : TextOutput) (places : List ℕ) where
       let same = take-sets (w .kept) xs places (w .kept) (omega arith) in
       split (λ (g : Given). KeptFirst w places (record { given = g; places = after }))
       (w .«expect_starter» && (ltb 0 k && not (basicTextStart p (getD after 0 0))))
-      (λ e. refused-keeps after (abandonedBy (5 ∷ []) (writerWith (w .mode) false k m)) same (omega arith) (omega arith))
-      (λ e. handed-keeps after k (writerWith (w .mode) false 0 m) same (omega arith) refl)
+      (λ e. refused-keeps after _ same (omega arith) (omega arith))
+      (λ e. handed-keeps after k _ same (omega arith) refl)
   ended-keeps p (stops xs m n) h =
       refused-keeps (sets places (w .kept) xs) _ (take-sets (w .kept) xs places (w .kept) (omega arith)) (refusal-first (h .1)) (omega arith)
 
@@ -71,8 +71,8 @@ module _ (w : TextOutput) (places : List ℕ) where
       (λ e. ended-keeps p (runIn (w .mode) p (machineOf w) chars) (mode-refuses p (w .mode) (machineOf w) chars))
       (λ e.
       split (λ (g : Given). KeptFirst w places (record { given = g; places = places })) (eqb n 3)
-      (λ t. refused-keeps places (abandonedBy (3 ∷ []) w) refl (omega arith) (omega arith))
-      (λ t. refused-keeps places (refusedBy n w) refl (omega (arith, eqb-false n 0 e)) (omega arith)))
+      (λ t. refused-keeps places _ refl (omega arith) (omega arith))
+      (λ t. refused-keeps places _ refl (omega (arith, eqb-false n 0 e)) (omega arith)))
 
   pub kept-first : (p chars : List ℕ) → KeptFirst w places (writeStrOf w p chars places)
   unfolding writeStrOf

@@ -168,7 +168,7 @@ module _ (w : TextOutput) (places : List ℕ) where
       split (λ (g : Given). Leaves write w places (record { given = g; places = after }))
       (w .«expect_starter» && (ltb 0 k && not (basicTextStart p (getD after 0 0))))
       (λ e. loud write w places 5 [] (writerWith (w .mode) false k m) after refl (λ q. never q) (λ q. refl) (λ q. never q) (λ q. never q) past)
-      (λ e. handed write w places (0 ∷ k ∷ []) (writerWith (w .mode) false 0 m) after refl (λ q. never q) past)
+      (λ e. handed write w places (0 ∷ k ∷ []) _ after refl (λ q. never q) past)
   ended-leaves p (stops xs m n) h =
       let k = w .kept + length xs in
       stopped-leaves (h .1) (writerWith (w .mode) (w .«expect_starter») k m) _ refl (drop-sets k places (w .kept) xs (omega arith))
