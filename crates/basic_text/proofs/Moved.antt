@@ -7,14 +7,14 @@
 --     with-tail                 a queue is its numbers and the bytes past the last whole four
 use Prim.Native.Nat.{ℕ, zero, suc, _+_, _*_, _≤_, _<_}
 use mathlib.Core.Path.{_≡_, refl, sym, ap, _∙_}
-use mathlib.Core.Bool.{Bool, true}
+use mathlib.Core.Bool.{true}
 use mathlib.Core.List.{List, [], _∷_, _++_}
 use native.Mathlib.Nat.{zero-add}
 use native.Mathlib.Numerals.{add-one}
 use native.Mathlib.Omega.{arith}
 use lib.Dec.{leb}
-use lib.ListN.{length, take, drop, set}
-use lib.Seq.{sets, length-sets, drop-set-lt, length-take-le}
+use lib.ListN.{length, take, set}
+use lib.Seq.{sets, length-sets, length-take-le}
 use borrow.Author.Tests.{leb-true}
 use Rattle.common.proofs.Kit.{both-true}
 use Rattle.common.proofs.Lists.{drop-sets, take-first}
@@ -31,7 +31,7 @@ use Rattle.text_output_write.specs.Inner.{Progress, machineAt, pushed, stored, 
 use Rattle.text_output_write.proofs.Stays.{steps-stay, turn-sound}
 use Rattle.basic_text.specs.Exports.{numberOf, numbersOf, bytesOf}
 use Rattle.basic_text.specs.Inner.{tail, atPlace, placeIn, behindOf}
-use Rattle.basic_text.proofs.Laws.{Bytes, four-more, length-numbers, length-bytes, with-all, all-is, stores-rest}
+use Rattle.basic_text.proofs.Laws.{Bytes, four-more, length-numbers, length-bytes, all-is, stores-rest}
 use Rattle.basic_text.proofs.Stores.{sets-bytes}
 use Rattle.basic_text.proofs.Crossing.{Wide, wide-more, number-back}
 

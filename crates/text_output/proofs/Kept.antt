@@ -2,13 +2,13 @@
 -- alone.
 --     kept-first          in a write of characters
 --     kept-first-bytes    .. in a write of bytes
-use Prim.Native.Nat.{ℕ, suc, _+_, _≤_, _<_}
+use Prim.Native.Nat.{ℕ, _+_, _≤_, _<_}
 use mathlib.Core.Bool.{false, not, _&&_}
 use mathlib.Core.List.{List, [], _∷_}
-use mathlib.Core.Path.{_≡_, refl, _∙_}
+use mathlib.Core.Path.{_≡_, refl}
 use native.Mathlib.Omega.{arith}
 use lib.Dec.{eqb, ltb}
-use lib.ListN.{length, take, set, getD}
+use lib.ListN.{length, take, getD}
 use lib.Seq.{sets}
 use borrow.Author.Tests.{eqb-false}
 use Rattle.unicode.specs.Utf8.{charsOf}
@@ -16,7 +16,7 @@ use Rattle.common.proofs.Kit.{split}
 use Rattle.common.proofs.Lists.{take-sets}
 use Rattle.text_utils.specs.Classes.{basicTextStart}
 use Rattle.text_output.specs.declared.TextOutput.{TextOutput}
-use Rattle.text_output.specs.Writer.{Given, Machine, machineOf, writerWith, refusedBy, abandonedBy}
+use Rattle.text_output.specs.Writer.{Given, Machine, machineOf}
 use Rattle.text_output.specs.Step.{Stepped, goes, stops}
 use Rattle.text_output.specs.Write.{runIn, endedBy, writtenBy, unlessRefused, writeStrRefusal, writeStrOf, writeBytesRefusal, writeOf}
 use Rattle.text_output.specs.Kept.{KeptFirst}

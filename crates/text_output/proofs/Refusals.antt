@@ -3,13 +3,13 @@
 --     write-leaves, write-bytes-leaves    what a write of characters, of bytes leaves
 --     flush-leaves, close-leaves          what a flush, a close leaves
 --     second-closes                       a second close after one refused by 11, 12 or 13 succeeds
-use Prim.Native.Nat.{ℕ, suc, _+_, _≤_}
+use Prim.Native.Nat.{ℕ, _+_}
 use mathlib.Core.Bool.{true, false, not, _&&_}
 use mathlib.Core.List.{List, [], _∷_}
-use mathlib.Core.Path.{_≡_, refl, sym, _∙_}
+use mathlib.Core.Path.{_≡_, refl, sym}
 use native.Mathlib.Omega.{arith}
 use lib.Dec.{eqb, ltb}
-use lib.ListN.{length, drop, set, getD}
+use lib.ListN.{length, drop, getD}
 use lib.Seq.{sets}
 use Rattle.unicode.specs.Chars.{areChars}
 use Rattle.unicode.specs.Utf8.{charsOf}
@@ -23,7 +23,7 @@ use Rattle.text_output.specs.declared.State.the-variants.{Ground, Esc, C
 use Rattle.text_output.specs.declared.TextOutput.{TextOutput}
 use Rattle.text_output.specs.Writer.{Given, Machine, machineOf, writerWith, sound, refusedBy, abandonedBy}
 use Rattle.text_output.specs.Step.{Stepped, goes, stops}
-use Rattle.text_output.specs.Write.{runIn, endedBy, writtenBy, inputRefusal, thenRoom, writeRefusal, unlessRefused, charsRefusal, writeStrRefusal, writeStrOf, bytesRefusal, writeBytesRefusal, writeOf}
+use Rattle.text_output.specs.Write.{runIn, endedBy, writtenBy, inputRefusal, thenRoom, writeRefusal, refusedWrite, unlessRefused, charsRefusal, writeStrRefusal, writeStrOf, bytesRefusal, writeBytesRefusal, writeOf}
 use Rattle.text_output.specs.Close.{expecting, flushIn, flushOf, closeIn, closeOf}
 use Rattle.text_output.specs.Refusals.{Call, write, flush, close, refusalIn, filledIn, oneOf, isClose, isQuiet, isOther, isSparing, Leaves, SecondCloses}
 use Rattle.text_output.proofs.Steps.{StepRefusal, four, six, Holds, mode-refuses}
@@ -173,6 +173,19 @@ module _ (w : TextOutput) (places : List ℕ) where
       let k = w .kept + length xs in
       stopped-leaves (h .1) (writerWith (w .mode) (w .«expect_starter») k m) _ refl (drop-sets k places (w .kept) xs (omega arith))
 
+  -- refused by 3
+  three-leaves : Leaves write w places (record { given = refusedWrite 3 w; places = places })
+  three-leaves =
+      record {
+        nothing = λ e. never e;
+        after-newline = λ e. (refl, (refl, refl));
+        expectation-stays = λ e. refl;
+        spent-by-5 = λ e. never e;
+        set-by-close = λ e. never e;
+        kept-stay = λ e. (refl, refl);
+        past-stay = refl;
+      }
+
   -- refused before its steps, or not
   unless-leaves : (n : ℕ) (p chars : List ℕ) → IsInput n → Leaves write w places (unlessRefused n w places (writtenBy w p chars places))
   unfolding writtenBy
@@ -181,7 +194,7 @@ module _ (w : TextOutput) (places : List ℕ) where
       (λ e. ended-leaves p (runIn (w .mode) p (machineOf w) chars) (mode-refuses p (w .mode) (machineOf w) chars))
       (λ e.
       split (λ (g : Given). Leaves write w places (record { given = g; places = places })) (eqb n 3)
-      (λ t. loud write w places 3 [] w places refl (λ r. refl) (λ r. never r) (λ r. never r) (λ r. (refl, refl)) refl)
+      (λ t. three-leaves)
       (λ t. quiet write w places n (q e t .0) (q e t .1) refl))
 
   pub write-leaves : (p chars : List ℕ) → Leaves write w places (writeStrOf w p chars places)

@@ -20,7 +20,7 @@ use Rattle.text_output.specs.declared.Ground.the-variants.{Newline, ZwjO
 use Rattle.text_output.specs.declared.State.{State}
 use Rattle.text_output.specs.declared.State.the-variants.{Ground, Esc, Csi}
 use Rattle.text_output.specs.declared.TextOutput.{TextOutput}
-use Rattle.text_output.specs.Writer.{Given, Outcome, BytesOutcome, Machine, machineOf, escapeLimit, heldIn, sound}
+use Rattle.text_output.specs.Writer.{Given, Outcome, Machine, machineOf, escapeLimit, heldIn, sound}
 use Rattle.text_output.specs.Step.{Stepped, goes, stops, holding}
 use Rattle.text_output.specs.Write.{runIn, endedBy, writtenBy, unlessRefused, writeStrRefusal, writeStrOf, writeBytesRefusal, writeOf}
 use Rattle.text_output.specs.Close.{flushIn, flushOf, closeIn, closeOf, abandonOf}

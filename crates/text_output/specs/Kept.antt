@@ -13,7 +13,11 @@ use Rattle.text_output.specs.Writer.{Outcome}
 abbrev pub keptAfter : Bool → ℕ → ℕ
 keptAfter handed k = cond handed 0 k
 
--- of the writer and the places at entry, and what the write returned and left
+-- of the writer and the places at entry, and what a call returned and left: "the kept characters stay."
+abbrev pub KeptStay : TextOutput → List ℕ → Outcome → Type 0
+KeptStay w places left = (left .given .next .kept ≡ w .kept) × (left .places ≡ places)
+
+-- the same of a write
 pub record KeptFirst (w : TextOutput) (places : List ℕ) (wrote : Outcome) : Type 0 where
   -- they stand in the first places, and stay there
   pub places-stay : take (w .kept) (wrote .places) ≡ take (w .kept) places

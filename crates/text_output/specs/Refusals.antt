@@ -10,6 +10,7 @@ use Rattle.text_output.specs.declared.Ground.the-variants.{Newline}
 use Rattle.text_output.specs.declared.State.the-variants.{Ground}
 use Rattle.text_output.specs.declared.TextOutput.{TextOutput}
 use Rattle.text_output.specs.Writer.{Given, Outcome}
+use Rattle.text_output.specs.Kept.{KeptStay}
 use Rattle.text_output.specs.Write.{succeeds}
 use Rattle.text_output.specs.Close.{closeOf}
 
@@ -70,8 +71,7 @@ pub record Leaves (call : Call) (w : TextOutput) (places : List ℕ) (left : Out
   -- "close sets it again, refused or not": but by 9, which changes nothing
   pub set-by-close : isClose call && not (eqb (refusalIn (left .given)) 9) ≡ true → left .given .next .«expect_starter» ≡ true
   -- "Refused by 3, 11, 12 or 13, the kept characters stay."
-  pub kept-stay : oneOf (3 ∷ 11 ∷ 12 ∷ 13 ∷ []) (refusalIn (left .given)) ≡ true →
-      (left .given .next .kept ≡ w .kept) × (left .places ≡ places)
+  pub kept-stay : oneOf (3 ∷ 11 ∷ 12 ∷ 13 ∷ []) (refusalIn (left .given)) ≡ true → KeptStay w places left
   -- "Places past the filled, kept or handed-out ones are unchanged", refused or not
   pub past-stay : drop (filledIn (left .given)) (left .places) ≡ drop (filledIn (left .given)) places
 

@@ -77,7 +77,10 @@ handOut p mode expect m k places =
 -- how a write ends: what its steps added stands in the places behind the kept ones. "4, 6 .. leave the expectation as it was"
 abbrev pub endedBy : List ℕ → TextOutput → Stepped → List ℕ → Outcome
 endedBy p w (goes xs m) places =
-    record { given = handOut p (w .mode) (w .«expect_starter») m (w .kept + length xs) (sets places (w .kept) xs); places = sets places (w .kept) xs }
+    record {
+      given = handOut p (w .mode) (w .«expect_starter») m (w .kept + length xs) (sets places (w .kept) xs);
+      places = sets places (w .kept) xs;
+    }
 endedBy p w (stops xs m n) places =
     record {
       given = abandonedBy n (writerWith (w .mode) (w .«expect_starter») (keptAfter false (w .kept + length xs)) m);

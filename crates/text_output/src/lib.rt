@@ -1,7 +1,8 @@
-// The writer: ports text_output.rs. Its record is a value, and the characters that it hands out stand in a lent slice: those kept
-// since the last success in the first places, and behind them those of the write.
-// The stream that the Rust writer holds is the caller's: a success says how many characters are handed out, and a refusal whether
-// the caller is to abandon the stream. The two writes are the crate `text_output_write`.
+// The writer: ports text_output.rs, but for the code of the two writes, which is the crate `text_output_write`; what these do is defined
+// here, in specs/Write.antt.
+// The record is a value, and the characters that it hands out stand in a lent slice: those kept since the last success in the first
+// places, and behind them those of the write. The stream that the Rust writer holds is the caller's: a success says how many
+// characters are handed out, and a refusal whether the caller is to abandon the stream.
 use check_char::BasicTextError;
 use common::AFTER_NO_NEWLINE;
 use common::AFTER_NON_END;

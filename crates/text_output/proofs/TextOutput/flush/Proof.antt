@@ -1,7 +1,6 @@
 -- `flush` meets its contract: 9 first, then the state.
 use borrow.Author.Needs.{needs}
 use mathlib.Core.Path.{sym, _∙_}
-use Rattle.common.proofs.Kit.{tests}
 use Rattle.text_output.specs.Close.{flushOf}
 use Rattle.text_output.proofs.TextOutput.flush.Statement.{statement}
 use Rattle.text_output.proofs.TextOutput.flush.Tie as tie

@@ -1,5 +1,4 @@
 -- `ground_step` meets its contract: its tests are those of `groundAsked`, in the same order.
-use mathlib.Core.Path.{refl}
 use Rattle.common.proofs.Kit.{tests}
 use borrow.Author.Needs.{needs}
 use Rattle.text_output_write.proofs.step.ground_step.Statement.{statement}
