@@ -19,7 +19,7 @@ use Rattle.text_input.specs.declared.TextInput.{TextInput}
 use Rattle.text_input.specs.declared.step.Lead.{Lead}
 use Rattle.text_input.specs.declared.step.Lead.the-variants.{Nothing, Char}
 use Rattle.text_input.specs.declared.step.Left.{Left}
-use Rattle.text_input.specs.declared.step.Left.the-variants.{Part, Newline, Goes, After, Dropped}
+use Rattle.text_input.specs.declared.step.Left.the-variants.{Part, Newline, Goes, Ends, After, Dropped}
 use Rattle.text_input.specs.declared.step.Met.{Met}
 use Rattle.text_input.specs.declared.step.Met.the-variants.{Line, Opens, Other}
 use Rattle.text_input.specs.declared.step.Step.{Step}
@@ -59,6 +59,7 @@ module _ (p : List ℕ) (o : Options) where
   left-marked r start count c (Part s) = refl
   left-marked r start count c Newline = refl
   left-marked r start count c Goes = met-marked r start count c Nothing (r .«expect_starter») (meetOf o c)
+  left-marked r start count c Ends = met-marked r start count c Nothing (r .«expect_starter») (meetOf o c)
   left-marked r start count c (After a) = met-marked r start count c (Char a) false (meetOf o c)
   left-marked r start count c Dropped = met-marked r start count c Nothing false (meetOf o c)
 

@@ -28,7 +28,7 @@ use Rattle.text_input.specs.declared.TextInput.{TextInput}
 use Rattle.text_input.specs.declared.step.Lead.{Lead}
 use Rattle.text_input.specs.declared.step.Lead.the-variants.{Nothing, Char}
 use Rattle.text_input.specs.declared.step.Left.{Left}
-use Rattle.text_input.specs.declared.step.Left.the-variants.{Part, Newline, Goes, After, Dropped}
+use Rattle.text_input.specs.declared.step.Left.the-variants.{Part, Newline, Goes, Ends, After, Dropped}
 use Rattle.text_input.specs.declared.step.Met.{Met}
 use Rattle.text_input.specs.declared.step.Met.the-variants.{Line, Opens, Other}
 use Rattle.text_input.specs.Step.{leadChars, imageChars, outChars, firstChar, lastOf, leaveOf, meetOf, guardOf, metOf, leftOf, scanStepOf}
@@ -86,6 +86,7 @@ module _ (f : ℕ → Bool) (pass : Passes f) where
     left-pass r c (Part s) h char = tt
     left-pass r c Newline h char = one f 0x0A (pass .newline)
     left-pass r c Goes h char = met-pass r c Nothing (r .«expect_starter») (meetOf o c) refl char tt
+    left-pass r c Ends h char = met-pass r c Nothing (r .«expect_starter») (meetOf o c) refl char tt
     left-pass r c (After a) h char = met-pass r c (Char a) false (meetOf o c) refl char (rw h at (pending-pass (r .state)))
     left-pass r c Dropped h char = met-pass r c Nothing false (meetOf o c) refl char tt
 

@@ -25,7 +25,7 @@ use Rattle.text_input.specs.declared.step.Lead.the-variants.{Nothing, Ch
 use Rattle.text_input.specs.declared.step.Image.{Image}
 use Rattle.text_input.specs.declared.step.Image.the-variants.{Empty, Chars}
 use Rattle.text_input.specs.declared.step.Left.{Left}
-use Rattle.text_input.specs.declared.step.Left.the-variants.{Part, Newline, Goes, After, Dropped}
+use Rattle.text_input.specs.declared.step.Left.the-variants.{Part, Newline, Goes, Ends, After, Dropped}
 use Rattle.text_input.specs.declared.step.Met.{Met}
 use Rattle.text_input.specs.declared.step.Met.the-variants.{Line, Opens, Other}
 use Rattle.text_input.specs.declared.step.Step.{Step}
@@ -196,6 +196,7 @@ left-keeps : (p : List ℕ) (o : Options) (r : TextInput) (c : ℕ) (l : Left) �
 left-keeps p o r c (Part s) = made-keeps r Nothing Empty s (r .«expect_starter»)
 left-keeps p o r c Newline = made-keeps r Nothing (Chars (One 0x0A)) (Ground true) false
 left-keeps p o r c Goes = met-keeps p r c Nothing (r .«expect_starter») (meetOf o c)
+left-keeps p o r c Ends = met-keeps p r c Nothing (r .«expect_starter») (meetOf o c)
 left-keeps p o r c (After a) = met-keeps p r c (Char a) false (meetOf o c)
 left-keeps p o r c Dropped = met-keeps p r c Nothing false (meetOf o c)
 

@@ -27,12 +27,12 @@ use Rattle.text_input.specs.declared.TextInput.{TextInput}
 use Rattle.text_input.specs.declared.step.Lead.{Lead}
 use Rattle.text_input.specs.declared.step.Lead.the-variants.{Nothing, Char}
 use Rattle.text_input.specs.declared.step.Left.{Left}
-use Rattle.text_input.specs.declared.step.Left.the-variants.{Part, Newline, Goes, After, Dropped}
+use Rattle.text_input.specs.declared.step.Left.the-variants.{Part, Newline, Goes, Ends, After, Dropped}
 use Rattle.text_input.specs.declared.step.Met.{Met}
 use Rattle.text_input.specs.declared.step.Met.the-variants.{Line, Opens, Other}
 use Rattle.text_input.specs.declared.step.Step.{Step}
 use Rattle.text_input.specs.Sets.{parameter, final, stringEnd, upTo7F, newlineChar}
-use Rattle.text_input.specs.Step.{leadChars, imageChars, outChars, firstChar, lastOf, csiLeave, leaveOf, meetOf, guardOf, metOf, leftOf, scanStepOf}
+use Rattle.text_input.specs.Step.{leadChars, imageChars, outChars, firstChar, lastOf, csiLeave, leaveOf, meetOf, guardOf, metOf, groundOf, leftOf, scanStepOf}
 use Rattle.text_input.specs.Scan.{outs, placesForChunk, skipped, opened, scanChars, pendingOf, afterLine, endMarkOf, newlineOf, finishChars}
 
 -- ---- what a record owes
@@ -92,6 +92,7 @@ abbrev pub Given : State → Left → Type 0
 Given s (Part t) = Unit {0}
 Given s Newline = Unit {0}
 Given s Goes = Unit {0}
+Given s Ends = Unit {0}
 Given s (After a) = pendingOf s ≡ Char a
 Given s Dropped = Unit {0}
 
@@ -105,19 +106,23 @@ given-pending Cr c = split (Given Cr) (eqb c 0x0A) (λ e. tt) (λ e. refl)
 given-pending Ff c = split (Given Ff) (eqb c 0x0C) (λ e. tt) (λ e. split (Given Ff) (newlineChar c) (λ e. search refl) (λ e. refl))
 given-pending Esc c =
     split (Given Esc) (eqb c 0x5B) (λ e. tt)
-    (λ e. split (Given Esc) (eqb c 0x5D) (λ e. tt)
-    (λ e. split (Given Esc) (eqb c 0x1B) (λ e. tt) (λ e. split (Given Esc) (final c) (λ e. tt) (λ e. tt))))
+    (λ e. split (Given Esc) (eqb c 0x5D) (λ e. tt) (λ e. split (Given Esc) (final c) (λ e. tt) (λ e. tt)))
 given-pending CsiStart c = split (Given CsiStart) (eqb c 0x5B) (λ e. tt) (λ e. csi-given CsiStart c)
 given-pending Csi c = csi-given Csi c
 given-pending Osc c = split (Given Osc) (stringEnd c) (λ e. tt) (λ e. split (Given Osc) (eqb c 0x1B) (λ e. tt) (λ e. tt))
 given-pending Linux c = split (Given Linux) (upTo7F c) (λ e. tt) (λ e. tt)
 
 module _ (p : List ℕ) (o : Options) (r : TextInput) where
+  -- the ground state takes c, and nothing was given before it
+  free-cost : (c : ℕ) → cost (groundOf p o r c Nothing (r .«expect_starter»)) ≤ 3 + owed r
+  free-cost c =
+      met-cost p r c (owed r) Nothing (r .«expect_starter») (meetOf o c) (omega arith) (owes-guard (r .state) (r .«expect_starter»))
+
   left-cost : (c : ℕ) (l : Left) → Given (r .state) l → cost (leftOf p o r c l) ≤ 3 + owed r
   left-cost c (Part s) h = omega (arith, owes-one s (r .«expect_starter»))
   left-cost c Newline h = omega arith
-  left-cost c Goes h =
-      met-cost p r c (owed r) Nothing (r .«expect_starter») (meetOf o c) (omega arith) (owes-guard (r .state) (r .«expect_starter»))
+  left-cost c Goes h = free-cost c
+  left-cost c Ends h = free-cost c
   left-cost c (After a) h =
       let one : pending (r .state) ≡ 1 = rw h in
       met-cost p r c (owed r) (Char a) false (meetOf o c) (omega (arith, owes-pending (r .state) (r .«expect_starter»))) (omega arith)

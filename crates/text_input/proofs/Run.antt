@@ -15,13 +15,13 @@ use Rattle.page.specs.Page.{accepted}
 use Rattle.text_utils.specs.Classes.{basicTextStart}
 use Rattle.text_utils.proofs.Classes.{start-newline, start-space}
 use Rattle.text_input.specs.declared.State.{State}
-use Rattle.text_input.specs.declared.State.the-variants.{Ground, Cr, Esc, Csi, Osc}
+use Rattle.text_input.specs.declared.State.the-variants.{Ground, Cr, Csi, Osc}
 use Rattle.text_input.specs.declared.Options.{Options}
 use Rattle.text_input.specs.declared.TextInput.{TextInput}
 use Rattle.text_input.specs.declared.step.Lead.{Lead}
 use Rattle.text_input.specs.declared.step.Lead.the-variants.{Nothing, Char}
 use Rattle.text_input.specs.declared.step.Left.{Left}
-use Rattle.text_input.specs.declared.step.Left.the-variants.{Part, Goes, After, Dropped}
+use Rattle.text_input.specs.declared.step.Left.the-variants.{Part, Ends, After, Dropped}
 use Rattle.text_input.specs.declared.step.Met.{Met}
 use Rattle.text_input.specs.declared.step.Met.the-variants.{Line, Opens, Other}
 use Rattle.text_input.specs.declared.step.Step.{Step}
@@ -29,7 +29,7 @@ use Rattle.text_input.specs.Sets.{parameter, final, stringEnd, upTo7F, n
 use Rattle.text_input.specs.Step.{outChars, lastOf, metOf, leftOf, leaveOf, meetOf, scanStepOf}
 use Rattle.text_input.specs.Scan.{finishChars, afterLine}
 use Rattle.text_input.specs.Pieces.{Kind, escape, isLine, stringChar, pieceImage, pageImage}
-use Rattle.text_input.proofs.Recognise.{false-true, cond-id}
+use Rattle.text_input.proofs.Recognise.{cond-id}
 use Rattle.text_input.proofs.Cut.{Inner, cr, ff, esc, csiStart, csi, osc, linux, stateOf, kindOf, Move, goes, closes, stops}
 use Rattle.text_input.proofs.Cut.{move, Cut, cut, cut-by}
 
@@ -138,9 +138,9 @@ module _ (p : List ℕ) (o : Options) (eof start : Bool) (count : ℕ) where
   met-after (Opens q) s z d e n c a t = refl
   met-after Other s z d e n c a t = refl
 
-  leave-goes : (i : Inner) (b e : Bool) (n c : ℕ) (t : List ℕ) → leave i e n c t Goes ≡ complete (c ∷ t) (at (Ground b) e n)
+  leave-ends : (i : Inner) (b e : Bool) (n c : ℕ) (t : List ℕ) → leave i e n c t Ends ≡ complete (c ∷ t) (at (Ground b) e n)
   unfolding leave resume complete scanStepOf leaveOf
-  leave-goes i b e n c t = rw (met-any (meetOf o c) (stateOf i) (Ground b) e e e n c Nothing)
+  leave-ends i b e n c t = rw (met-any (meetOf o c) (stateOf i) (Ground b) e e e n c Nothing)
 
   leave-dropped : (i : Inner) (b e : Bool) (n c : ℕ) (t : List ℕ) →
       leave i e n c t Dropped ≡ complete (c ∷ t) (at (Ground b) false n)
@@ -171,42 +171,32 @@ module _ (p : List ℕ) (o : Options) (eof start : Bool) (count : ℕ) where
   cr-expect [] d e n = unfold complete in refl
   cr-expect (c ∷ t) d e n = complete-inside cr d n c t ∙ cr-leave c t d e n ∙ sym (complete-inside cr e n c t)
 
-  -- an escape at the ground state, also from within another
-  at-esc : (c : ℕ) (t : List ℕ) (e : Bool) (n : ℕ) → eqb c 0x1B ≡ true →
-      complete t (at Esc e n) ≡ complete (c ∷ t) (at (Ground false) e n)
-  unfolding complete scanStepOf leaveOf meetOf
-  at-esc c t e n h = rw (eqb-true c 0x1B h)
-
   -- ---- a step within a piece, as the walk has it
-  run-esc : (c : ℕ) (t : List ℕ) (e : Bool) (n : ℕ) (z f : Bool) → eqb c 0x1B ≡ z → final c ≡ f →
-      cond z (leave esc e n c t (Part Esc)) (cond f (leave esc e n c t (Part (Ground false))) (leave esc e n c t Goes))
-      ≡ cond f (follow esc closes e n c t) (follow esc stops e n c t)
-  unfolding leave follow onward told resume pieceImage guard expectAfter
-  run-esc c t e n true true h g = unfold final in false-true (rw (eqb-true c 0x1B h) at g)
-  run-esc c t e n true false h g = rw (at-esc c t e n h)
-  run-esc c t e n false true h g = refl
-  run-esc c t e n false false h g = leave-goes esc false e n c t
-
-  run-osc : (c : ℕ) (t : List ℕ) (e : Bool) (n : ℕ) (b z : Bool) → stringEnd c ≡ b → eqb c 0x1B ≡ z →
-      cond b (leave osc e n c t (Part (Ground false))) (cond z (leave osc e n c t (Part Esc)) (leave osc e n c t (Part Osc)))
-      ≡ cond (not b && not z) (follow osc (goes osc) e n c t) (cond b (follow osc closes e n c t) (follow osc stops e n c t))
-  unfolding leave follow onward told resume pieceImage guard expectAfter
-  run-osc c t e n true z h g = refl
-  run-osc c t e n false true h g = rw (at-esc c t e n g)
-  run-osc c t e n false false h g = refl
-
   -- an escape that ends before the character
-  run-stops : (i : Inner) (c : ℕ) (t : List ℕ) (e : Bool) (n : ℕ) → kindOf i ≡ escape → leave i e n c t Goes ≡ follow i stops e n c t
+  run-stops : (i : Inner) (c : ℕ) (t : List ℕ) (e : Bool) (n : ℕ) → kindOf i ≡ escape → leave i e n c t Ends ≡ follow i stops e n c t
   unfolding follow onward told pieceImage guard expectAfter
-  run-stops i c t e n h = rw h (leave-goes i false e n c t)
+  run-stops i c t e n h = rw h (leave-ends i false e n c t)
+
+  -- with the character or before it
+  run-final : (i : Inner) (c : ℕ) (t : List ℕ) (e : Bool) (n : ℕ) → kindOf i ≡ escape →
+      cond (final c) (leave i e n c t (Part (Ground false))) (leave i e n c t Ends)
+      ≡ cond (final c) (follow i closes e n c t) (follow i stops e n c t)
+  run-final i c t e n h =
+      cond-cong (final c) _ _ _ _ (λ d. unfold leave follow onward told resume pieceImage guard expectAfter in rw h)
+      (λ d. run-stops i c t e n h)
 
   run-csi : (i : Inner) (c : ℕ) (t : List ℕ) (e : Bool) (n : ℕ) → kindOf i ≡ escape →
-      cond (parameter c) (leave i e n c t (Part Csi)) (cond (final c) (leave i e n c t (Part (Ground false))) (leave i e n c t Goes))
+      cond (parameter c) (leave i e n c t (Part Csi)) (cond (final c) (leave i e n c t (Part (Ground false))) (leave i e n c t Ends))
       ≡ cond (parameter c) (follow i (goes csi) e n c t) (cond (final c) (follow i closes e n c t) (follow i stops e n c t))
   run-csi i c t e n h =
-      cond-cong (parameter c) _ _ _ _ (λ g. unfold leave follow resume in refl)
-      (λ g. cond-cong (final c) _ _ _ _ (λ d. unfold leave follow onward told resume pieceImage guard expectAfter in rw h)
-      (λ d. run-stops i c t e n h))
+      cond-cong (parameter c) _ _ _ _ (λ g. unfold leave follow resume in refl) (λ g. run-final i c t e n h)
+
+  run-osc : (c : ℕ) (t : List ℕ) (e : Bool) (n : ℕ) (b z : Bool) →
+      cond b (leave osc e n c t (Part (Ground false))) (cond z (leave osc e n c t Ends) (leave osc e n c t (Part Osc)))
+      ≡ cond (not b && not z) (follow osc (goes osc) e n c t) (cond b (follow osc closes e n c t) (follow osc stops e n c t))
+  run-osc c t e n true z = unfold leave follow onward told resume pieceImage guard expectAfter in refl
+  run-osc c t e n false true = run-stops osc c t e n refl
+  run-osc c t e n false false = unfold leave follow resume in refl
 
   pub guard-line : accepted p ≡ true → (e : Bool) → guard p e (0x0A ∷ []) ≡ 0x0A ∷ []
   unfolding guard
@@ -245,12 +235,12 @@ module _ (p : List ℕ) (o : Options) (eof start : Bool) (count : ℕ) where
       simp (leave-cond, follow-cond)
       (cond-cong (eqb c 0x5B) _ _ _ _ (λ h. unfold leave follow resume in refl)
       (λ h. cond-cong (eqb c 0x5D) _ _ _ _ (λ g. unfold leave follow resume in refl)
-      (λ g. run-esc c t e n (eqb c 0x1B) (final c) refl refl)))
+      (λ g. run-final esc c t e n refl)))
   run good csiStart c t e n =
       simp (leave-cond, follow-cond)
       (cond-cong (eqb c 0x5B) _ _ _ _ (λ h. unfold leave follow resume in refl) (λ h. run-csi csiStart c t e n refl))
   run good csi c t e n = simp (leave-cond, follow-cond) (run-csi csi c t e n refl)
-  run good osc c t e n = simp (leave-cond, follow-cond) (run-osc c t e n (stringEnd c) (eqb c 0x1B) refl refl)
+  run good osc c t e n = simp (leave-cond, follow-cond) (run-osc c t e n (stringEnd c) (eqb c 0x1B))
   run good linux c t e n =
       simp (leave-cond, follow-cond)
       (cond-cong (upTo7F c) _ _ _ _ (λ h. unfold leave follow onward told resume pieceImage guard expectAfter in refl)

@@ -21,7 +21,7 @@ use Rattle.text_input.specs.declared.step.Lead.the-variants.{Nothing, Ch
 use Rattle.text_input.specs.declared.step.Image.{Image}
 use Rattle.text_input.specs.declared.step.Image.the-variants.{Empty, Chars}
 use Rattle.text_input.specs.declared.step.Left.{Left}
-use Rattle.text_input.specs.declared.step.Left.the-variants.{Part, Newline, Goes, After, Dropped}
+use Rattle.text_input.specs.declared.step.Left.the-variants.{Part, Newline, Goes, Ends, After, Dropped}
 use Rattle.text_input.specs.declared.step.Met.{Met}
 use Rattle.text_input.specs.declared.step.Met.the-variants.{Line, Opens, Other}
 use Rattle.text_input.specs.declared.step.Step.{Step}
@@ -52,20 +52,20 @@ firstChar (Two a b) = a
 firstChar (Three a b c) = a
 
 -- ---- what a character does to what is pending before it
---     Part s     it gives nothing and leaves the state s: it is part of what is pending, or the 1B at which one escape ends and the
---                next begins
+--     Part s     it is part of it: it gives nothing and leaves the state s
 --     Newline    it is the 0A of 0D 0A
---     Goes       nothing is pending, or an escape that ends before it and gives nothing; the ground state takes it
+--     Goes       nothing is pending: the ground state takes it
+--     Ends       an escape ends before it and gives nothing; then the ground state takes it, which at 1B opens the next escape
 --     After a    a is given for what was pending; then the ground state takes it
 --     Dropped    a page run before 0D or 0A gives nothing; then the ground state takes it
 -- `State::Esc`
 abbrev pub escLeave : ℕ → Left
 escLeave c =
-    cond (eqb c 0x5B) (Part CsiStart) (cond (eqb c 0x5D) (Part Osc) (cond (eqb c 0x1B) (Part Esc) (cond (final c) (Part (Ground false)) Goes)))
+    cond (eqb c 0x5B) (Part CsiStart) (cond (eqb c 0x5D) (Part Osc) (cond (final c) (Part (Ground false)) Ends))
 
 -- `State::CsiStart` and `State::Csi`
 abbrev pub csiLeave : ℕ → Left
-csiLeave c = cond (parameter c) (Part Csi) (cond (final c) (Part (Ground false)) Goes)
+csiLeave c = cond (parameter c) (Part Csi) (cond (final c) (Part (Ground false)) Ends)
 
 unfoldable pub leaveOf : State → ℕ → Left
 leaveOf (Ground b) c = Goes
@@ -74,8 +74,8 @@ leaveOf Ff c = cond (eqb c 0x0C) (Part Ff) (cond (newlineChar c) Dropped (After 
 leaveOf Esc c = escLeave c
 leaveOf CsiStart c = cond (eqb c 0x5B) (Part Linux) (csiLeave c)
 leaveOf Csi c = csiLeave c
-leaveOf Osc c = cond (stringEnd c) (Part (Ground false)) (cond (eqb c 0x1B) (Part Esc) (Part Osc))
-leaveOf Linux c = cond (upTo7F c) (Part (Ground false)) Goes
+leaveOf Osc c = cond (stringEnd c) (Part (Ground false)) (cond (eqb c 0x1B) Ends (Part Osc))
+leaveOf Linux c = cond (upTo7F c) (Part (Ground false)) Ends
 
 -- ---- what the ground state does with a character
 --     Line       it ends a line: its image is 0A
@@ -118,6 +118,7 @@ abbrev pub leftOf : List ℕ → Options → TextInput → ℕ → Left → Step
 leftOf p o r c (Part s) = madeOf r Nothing Empty s (r .«expect_starter»)
 leftOf p o r c Newline = madeOf r Nothing (Chars (One 0x0A)) (Ground true) false
 leftOf p o r c Goes = groundOf p o r c Nothing (r .«expect_starter»)
+leftOf p o r c Ends = groundOf p o r c Nothing (r .«expect_starter»)
 leftOf p o r c (After a) = groundOf p o r c (Char a) false
 leftOf p o r c Dropped = groundOf p o r c Nothing false
 

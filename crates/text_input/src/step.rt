@@ -37,12 +37,15 @@ pub enum Image {
 
 // What a character does to what is pending before it.
 pub enum Left {
-    // It gives nothing and leaves this state: it is part of it, or the ESC at which one escape ends and the next begins.
+    // It is part of it: it gives nothing and leaves this state.
     Part(State),
     // It is the 0A of 0D 0A.
     Newline,
-    // Nothing is pending, or an escape that ends without it: the ground state takes it.
+    // Nothing is pending: the ground state takes it.
     Goes,
+    // An escape ends without it and gives nothing, and the ground state takes it. An ESC so opens the next escape, where the Rust has
+    // arms of its own.
+    Ends,
     // This character is given for what was pending, and then the ground state takes it.
     After(u32),
     // A page run ends at 0D or 0A and gives nothing, and the ground state takes it.
@@ -116,12 +119,10 @@ fn leave_esc(c: u32) -> Left
         Left::Part(State::CsiStart)
     } else if c == 0x5d {
         Left::Part(State::Osc)
-    } else if c == ESC {
-        Left::Part(State::Esc)
     } else if is_final(c) {
         Left::Part(State::Ground(false))
     } else {
-        Left::Goes
+        Left::Ends
     }
 }
 
@@ -134,7 +135,7 @@ fn leave_csi(c: u32) -> Left
     } else if is_final(c) {
         Left::Part(State::Ground(false))
     } else {
-        Left::Goes
+        Left::Ends
     }
 }
 
@@ -174,7 +175,7 @@ fn leave(state: State, c: u32) -> Left
             if is_string_end(c) {
                 Left::Part(State::Ground(false))
             } else if c == ESC {
-                Left::Part(State::Esc)
+                Left::Ends
             } else {
                 Left::Part(State::Osc)
             }
@@ -183,7 +184,7 @@ fn leave(state: State, c: u32) -> Left
             if up_to_del(c) {
                 Left::Part(State::Ground(false))
             } else {
-                Left::Goes
+                Left::Ends
             }
         }
     }
@@ -325,6 +326,7 @@ impl TextInput {
                 );
             }
             Left::Goes => {}
+            Left::Ends => {}
             Left::After(a) => {
                 lead = Lead::Char(a);
                 expect = false;

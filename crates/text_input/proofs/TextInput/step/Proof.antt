@@ -1,4 +1,4 @@
--- `step` meets its contract: each kind of leaving gives the step that `leftOf` has for it; three of them go on to the ground state.
+-- `step` meets its contract: each kind of leaving gives the step that `leftOf` has for it; four of them go on to the ground state.
 use mathlib.Core.Logic.{⊎-elim}
 use borrow.Author.Needs.{needs}
 use Rattle.text_input.specs.Step.{scanStepOf}
@@ -20,8 +20,10 @@ returns-3 c =
     ⊎-elim
     (λ w. simp (← l, w .1 .given .1) (rw (w .2, w .3) at (c .ground .ensures)))
     (⊎-elim
+    (λ w. simp (← l, w .1 .given .1) (rw (w .2, w .3) at (c .ground .ensures)))
+    (⊎-elim
     (λ w. simp (← l, w .1 .given .1) (rw (w .3, w .4) at (c .ground .ensures)))
-    (λ w. simp (← l, w .1 .given .1) (rw (w .2, w .3) at (c .ground .ensures))))
+    (λ w. simp (← l, w .1 .given .1) (rw (w .2, w .3) at (c .ground .ensures)))))
     (c .before .match .came)
 
 pub step-spec : {M : Type 1} → statement M
@@ -35,6 +37,7 @@ step-spec =
     (λ c. search needs)
     (λ c κs. search needs)
     returns-2
+    (λ c. search needs)
     (λ c. search needs)
     (λ c. search needs)
     (λ c. search needs)

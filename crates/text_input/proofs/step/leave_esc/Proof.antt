@@ -12,5 +12,4 @@ leave-esc-spec =
     (λ c. search tests depth 10)
     (λ c. search tests depth 10)
     (λ c. search tests depth 10)
-    (λ c. search tests depth 10)
     (λ c. search tests depth 10))
