@@ -1,7 +1,7 @@
 -- A text comes in chunks: scans one after the other append what one scan of the joined chunks appends, and leave its record. A run
 -- goes over joined texts one after the other, and no step sees `at_start` and the count, in which alone a chunk's record differs
 -- from the one before it.
---     outs-append, ends-append             a run over joined texts
+--     run-append                           a run over joined texts; outs-append, ends-append: the same by its parts
 --     marked, outs-marked, ends-marked     a run does not see `at_start` and the count
 --     chunks-spent, chunks-spent-next      chunks on a record that has had a scan
 --     chunks-first, chunks-first-next      chunks on one that has not: the first of them loses its U+FEFF
@@ -24,19 +24,28 @@ use Rattle.text_input.specs.declared.step.Met.{Met}
 use Rattle.text_input.specs.declared.step.Met.the-variants.{Line, Opens, Other}
 use Rattle.text_input.specs.declared.step.Step.{Step}
 use Rattle.text_input.specs.Step.{metOf, leftOf, leaveOf, meetOf, scanStepOf}
-use Rattle.text_input.specs.Scan.{outs, ends, opened, leadingBom, skipped, scanChars, scanNext}
+use Rattle.text_input.specs.Scan.{Effect, stepEffect, joined, runOf, outs, ends, opened, leadingBom, skipped, scanChars, scanNext}
 use Rattle.text_input.specs.Streams.{scansChars, scansNext, withoutBom}
 use Rattle.text_input.proofs.Meaning.{ends-start}
 
 -- ---- a run over joined texts
+joined-assoc : (a b c : Effect) → joined a (joined b c) ≡ joined (joined a b) c
+joined-assoc a b c = rw append-assoc
+
+pub run-append : (p : List ℕ) (o : Options) (r : TextInput) (t u : List ℕ) →
+    runOf p o r (t ++ u) ≡ joined (runOf p o r t) (runOf p o (ends p o r t) u)
+run-append p o r [] u = refl
+run-append p o r (c ∷ t) u =
+    let s = scanStepOf p o r c in
+    ap (joined (stepEffect s)) (run-append p o (s .next) t u)
+    ∙ joined-assoc (stepEffect s) (runOf p o (s .next) t) (runOf p o (ends p o (s .next) t) u)
+
 pub outs-append : (p : List ℕ) (o : Options) (r : TextInput) (t u : List ℕ) →
     outs p o r (t ++ u) ≡ outs p o r t ++ outs p o (ends p o r t) u
-outs-append p o r [] u = refl
-outs-append p o r (c ∷ t) u = simp (outs-append p o (scanStepOf p o r c .next) t u, append-assoc)
+outs-append p o r t u = ap (λ (e : Effect). e .out) (run-append p o r t u)
 
 pub ends-append : (p : List ℕ) (o : Options) (r : TextInput) (t u : List ℕ) → ends p o r (t ++ u) ≡ ends p o (ends p o r t) u
-ends-append p o r [] u = refl
-ends-append p o r (c ∷ t) u = ends-append p o (scanStepOf p o r c .next) t u
+ends-append p o r t u = ap (λ (e : Effect). e .next) (run-append p o r t u)
 
 -- ---- what a run does not see
 -- the record with this `at_start` and this count
@@ -46,6 +55,9 @@ marked r start count =
 
 abbrev markedStep : Step → Bool → ℕ → Step
 markedStep s start count = record { lead = s .lead; image = s .image; next = marked (s .next) start count }
+
+abbrev markedRun : Effect → Bool → ℕ → Effect
+markedRun e start count = record { out = e .out; next = marked (e .next) start count }
 
 module _ (p : List ℕ) (o : Options) where
   met-marked : (r : TextInput) (start : Bool) (count c : ℕ) (lead : Lead) (e : Bool) (m : Met) →
@@ -68,14 +80,20 @@ module _ (p : List ℕ) (o : Options) where
   unfolding scanStepOf
   step-marked r start count c = left-marked r start count c (leaveOf (r .state) c)
 
+  run-marked : (r : TextInput) (start : Bool) (count : ℕ) (t : List ℕ) →
+      runOf p o (marked r start count) t ≡ markedRun (runOf p o r t) start count
+  run-marked r start count [] = refl
+  run-marked r start count (c ∷ t) =
+      let s = scanStepOf p o r c in
+      ap (λ (x : Step). joined (stepEffect x) (runOf p o (x .next) t)) (step-marked r start count c)
+      ∙ ap (joined (stepEffect s)) (run-marked (s .next) start count t)
+
   pub outs-marked : (r : TextInput) (start : Bool) (count : ℕ) (t : List ℕ) → outs p o (marked r start count) t ≡ outs p o r t
-  outs-marked r start count [] = refl
-  outs-marked r start count (c ∷ t) = rw (step-marked r start count c, outs-marked (scanStepOf p o r c .next) start count t)
+  outs-marked r start count t = ap (λ (e : Effect). e .out) (run-marked r start count t)
 
   pub ends-marked : (r : TextInput) (start : Bool) (count : ℕ) (t : List ℕ) →
       ends p o (marked r start count) t ≡ marked (ends p o r t) start count
-  ends-marked r start count [] = refl
-  ends-marked r start count (c ∷ t) = rw (step-marked r start count c) (ends-marked (scanStepOf p o r c .next) start count t)
+  ends-marked r start count t = ap (λ (e : Effect). e .next) (run-marked r start count t)
 
   -- ---- one scan, where the chunk without a dropped U+FEFF is t
   spent : (r : TextInput) → r .«at_start» ≡ false → (c : List ℕ) → drop (skipped r c) c ≡ c

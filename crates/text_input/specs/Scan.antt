@@ -17,6 +17,7 @@ use Rattle.text_input.specs.declared.TextInput.{TextInput}
 use Rattle.text_input.specs.declared.Scanned.{Scanned}
 use Rattle.text_input.specs.declared.step.Lead.{Lead}
 use Rattle.text_input.specs.declared.step.Lead.the-variants.{Nothing, Char}
+use Rattle.text_input.specs.declared.step.Step.{Step}
 use Rattle.text_input.specs.Step.{scanStepOf, outChars, leadChars, lastOf}
 
 -- "A fresh record is one as first made"; its last character is an end, so that a finish adds no 34F to an empty text
@@ -25,15 +26,29 @@ abbrev pub fresh : TextInput
 fresh = record { state = Ground true; «expect_starter» = true; «at_start» = true; last = 0x0A; count = 0 }
 
 -- ---- a run of characters from a record
--- what it appends
-abbrev pub outs : List ℕ → Options → TextInput → List ℕ → List ℕ
-outs p o r [] = []
-outs p o r (c ∷ cs) = outChars (scanStepOf p o r c) ++ outs p o (scanStepOf p o r c .next) cs
+-- what it comes to: the characters that it appends, and the record after it
+pub record Effect : Type 0 where
+  pub out : List ℕ
+  pub next : TextInput
 
--- the record after it
+abbrev pub stepEffect : Step → Effect
+stepEffect s = record { out = outChars s; next = s .next }
+
+-- one run, and another from the record after it
+abbrev pub joined : Effect → Effect → Effect
+joined a b = record { out = a .out ++ b .out; next = b .next }
+
+-- step by step
+abbrev pub runOf : List ℕ → Options → TextInput → List ℕ → Effect
+runOf p o r [] = record { out = []; next = r }
+runOf p o r (c ∷ cs) = joined (stepEffect (scanStepOf p o r c)) (runOf p o (scanStepOf p o r c .next) cs)
+
+-- the same by its parts
+abbrev pub outs : List ℕ → Options → TextInput → List ℕ → List ℕ
+outs p o r cs = runOf p o r cs .out
+
 abbrev pub ends : List ℕ → Options → TextInput → List ℕ → TextInput
-ends p o r [] = r
-ends p o r (c ∷ cs) = ends p o (scanStepOf p o r c .next) cs
+ends p o r cs = runOf p o r cs .next
 
 -- ---- a call's answer by document 01's numbers, the record after it, and the lent places as it returns
 -- "`VecDeque` and `String`: lent slices and counts."
@@ -91,12 +106,15 @@ abbrev pub opened : TextInput → ℕ → TextInput
 opened r n =
     record { state = r .state; «expect_starter» = r .«expect_starter»; «at_start» = false; last = r .last; count = r .count + n }
 
--- what an accepted scan appends, and the record after it
+-- what an accepted scan comes to, and this by its parts
+abbrev pub scanRun : List ℕ → Options → TextInput → List ℕ → Effect
+scanRun p o r chunk = runOf p o (opened r (length chunk)) (drop (skipped r chunk) chunk)
+
 abbrev pub scanChars : List ℕ → Options → TextInput → List ℕ → List ℕ
-scanChars p o r chunk = outs p o (opened r (length chunk)) (drop (skipped r chunk) chunk)
+scanChars p o r chunk = scanRun p o r chunk .out
 
 abbrev pub scanNext : List ℕ → Options → TextInput → List ℕ → TextInput
-scanNext p o r chunk = ends p o (opened r (length chunk)) (drop (skipped r chunk) chunk)
+scanNext p o r chunk = scanRun p o r chunk .next
 
 -- "(scan, finish and filling use the queue unisolated, isolation is an entry of its own)"
 unfoldable pub scanOf : TextInput → List ℕ → Options → List ℕ → List ℕ → Outcome
