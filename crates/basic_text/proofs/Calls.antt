@@ -19,7 +19,7 @@ use Rattle.common.specs.Answers.{writtenNumbers}
 use Rattle.text_input.specs.declared.Options.{Options}
 use Rattle.text_input.specs.declared.TextInput.{TextInput}
 use Rattle.text_input.specs.declared.Scanned.{Scanned}
-use Rattle.text_input.specs.Scan.{Outcome, outs, ends, refusalOf, scanRefusal, skipped, opened, outcome, scanOf, finishChars, finishNext, finishOf}
+use Rattle.text_input.specs.Scan.{Outcome, outs, ends, maxCount, placesForChunk, refusalOf, scanRefusal, skipped, opened, outcome, scanOf, finishChars, finishNext, finishOf}
 use Rattle.common.proofs.Lists.{rest-is}
 use Rattle.text_input.proofs.Room.{finish-room}
 use Rattle.text_input.proofs.Calls as calls
@@ -52,11 +52,11 @@ first-filled queue out q s whole k room e w = (
 -- ---- a scan
 -- the refusal's number n, 0 where there is none
 module _ (r : TextInput) (p : List ℕ) (o : Options) (chunk queue : List ℕ) (n : ℕ)
-    (e : n ≡ refusalOf (r .count) (accepted p) (areChars (numbersOf chunk)) (length chunk / 4) (length queue / 4)) where
+    (e : n ≡ refusalOf (r .count) (accepted p) (areChars (numbersOf chunk)) (length chunk / 4) (placesForChunk (length chunk / 4)) (length queue / 4)) where
   abbrev whole : Outcome
   whole = scanOf r p o (numbersOf chunk) (numbersOf queue)
 
-  asked : n ≡ scanRefusal r p (numbersOf chunk) (length (numbersOf queue))
+  asked : n ≡ scanRefusal (r .count) p (numbersOf chunk) (length (numbersOf queue))
   asked = rw (length-numbers chunk, length-numbers queue) e
 
   pub scan-refused : Bytes queue → (n ≡ 0 → ⊥) → Answers queue whole (record { answer = Refused n; next = r }) queue
@@ -68,7 +68,7 @@ module _ (r : TextInput) (p : List ℕ) (o : Options) (chunk queue : List ℕ) (
     pub right-page : accepted p ≡ true
     right-page = calls.right-page r p o (numbersOf chunk) (numbersOf queue) n asked z
 
-    pub few : r .count + length chunk / 4 ≤ 4294967295
+    pub few : r .count + length chunk / 4 ≤ maxCount
     few = rw length-numbers at (calls.counts r p o (numbersOf chunk) (numbersOf queue) n asked z)
 
     module _ (from : ℕ) (f : from ≡ skipped r (numbersOf chunk)) where

@@ -17,7 +17,7 @@ use Rattle.page.proofs.PageLaws.{facts-of-accepted}
 use Rattle.text_input.specs.declared.Options.{Options}
 use Rattle.text_input.specs.declared.TextInput.{TextInput}
 use Rattle.text_input.specs.declared.Scanned.{Scanned}
-use Rattle.text_input.specs.Scan.{Outcome, outcome, refusalOf, scanOf}
+use Rattle.text_input.specs.Scan.{Outcome, outcome, chunkRefusal, refusalOf, scanOf}
 use Rattle.text_output.specs.declared.TextOutput.{TextOutput}
 use Rattle.text_output.specs.declared.WrittenBytes.{WrittenBytes}
 use Rattle.text_output.specs.Writer.{BytesOutcome, bytesOutcome, machineOf, sound}
@@ -59,7 +59,7 @@ too-long p h =
 -- by two pages that are not accepted a scan is refused alike
 both-wrong : (p q : List ℕ) → accepted p ≡ false → accepted q ≡ false → (r : TextInput) (o : Options) (chunk queue : List ℕ) →
     scanOf r p o chunk queue ≡ scanOf r q o chunk queue
-unfolding scanOf refusalOf
+unfolding scanOf refusalOf chunkRefusal
 both-wrong p q e f r o chunk queue = simp (e, f)
 
 -- what answers alike by any two pages that are not accepted answers alike by a page and by what `fitting` makes of it

@@ -10,13 +10,13 @@ use Rattle.replace.specs.Replace.{replaceOf}
 use Rattle.isolate_unassigned.specs.Isolate.{toIsolate, isolateStepOf as isolateStep, isolateOf}
 use Rattle.text_input.specs.Sets.{final, stringEnd, upTo7F, newlineChar, optionalLine}
 use Rattle.text_input.specs.Step.{leaveOf, meetOf, scanStepOf}
-use Rattle.text_input.specs.Scan.{refusalOf, scanOf, finishOf}
+use Rattle.text_input.specs.Scan.{chunkRefusal, refusalOf, scanOf, finishOf}
 use Rattle.one_reading.specs.Cases.{Row, table, computed}
 
 -- "The first twelve are proved, with the page 0 1 0 377 (no nonstarters, 0..377 assigned); scans end as end of file." "Cases 1 to 12
 -- are proved in a shared table by one theorem about the definitions."
 pub cases : map computed table ≡ map (λ (row : Row). row .expected) table
-unfolding table scanOf refusalOf finishOf scanStepOf leaveOf meetOf final stringEnd upTo7F newlineChar optionalLine replaceOf isChar
+unfolding table scanOf chunkRefusal refusalOf finishOf scanStepOf leaveOf meetOf final stringEnd upTo7F newlineChar optionalLine replaceOf isChar
     basicTextStart basicTextEnd starter graphemeExtendNotCgj spacingMarkPlus isPrivateUse toIsolate isolateStep isolateOf
     accepted sized rising nonstarter assigned member rises
 cases = refl

@@ -20,8 +20,9 @@ use Rattle.page.specs.Page.{accepted}
 use Rattle.text_input.specs.declared.Options.{Options}
 use Rattle.text_input.specs.declared.TextInput.{TextInput}
 use Rattle.common.specs.Answers.{wroteIn}
-use Rattle.text_input.specs.Scan.{Outcome, refused, written, placesForChunk, refusalOf, scanChars, scanNext, scanOf, finishChars, finishNext, finishOf, opened, skipped}
+use Rattle.text_input.specs.Scan.{Outcome, refused, written, placesForChunk, scanRefusal, scanChars, scanNext, scanOf, finishChars, finishNext, finishOf, opened, skipped}
 use Rattle.text_input.specs.Streams.{scansChars, scansNext}
+use Rattle.text_input.proofs.Calls.{ChunkPassed, passed, room-passed}
 use Rattle.text_input.proofs.Meaning.{ends-count}
 use Rattle.text_input.proofs.Room.{scan-room, finish-room}
 use Rattle.one_reading.proofs.Holds.{chars-append}
@@ -57,22 +58,17 @@ call-is r (finish eof places) = unfold finishOf in finish-is (ltb (length places
 wrote-is : (out places : List ℕ) → length out ≤ length places → wroteIn (0 ∷ length out ∷ []) (sets places 0 out) ≡ out
 wrote-is out places h = take-first out places (length out) refl h
 
--- an accepted call has room for what it appends
-zero-room : (count n room : ℕ) (page chars : Bool) → refusalOf count page chars n room ≡ 0 → placesForChunk n ≤ room
-unfolding refusalOf
-zero-room count n room true true h =
-    by (ltb room (placesForChunk n))
-    (λ e. by (ltb 4294967295 (count + n)) (λ d. let z : ⊥ = omega (arith, rw d at h) in absurd z) (λ d. let z : ⊥ = omega (arith, rw (d, e) at h) in absurd z))
-    (λ e. ltb-false room (placesForChunk n) e)
-zero-room count n room true false h = let e : ⊥ = omega (arith, h) in absurd e
-zero-room count n room false chars h = let e : ⊥ = omega (arith, h) in absurd e
+-- what an accepted scan shows
+scan-passed : (count : ℕ) (p chunk : List ℕ) (room : ℕ) → scanRefusal count p chunk room ≡ 0 →
+    ChunkPassed count (accepted p) (areChars chunk) (length chunk) × (placesForChunk (length chunk) ≤ room)
+scan-passed count p chunk room h =
+    passed count (accepted p) (areChars chunk) (length chunk) (placesForChunk (length chunk)) room h
 
+-- an accepted call has room for what it appends
 chars-fit : (r : TextInput) (c : Call) → refusalBy (r .count) c ≡ 0 → length (charsOf r c) ≤ length (lent c)
 chars-fit r (scan p o chunk places) e =
-    omega (arith, scan-room p o r chunk, zero-room (r .count) (length chunk) (length places) (accepted p) (areChars chunk) e)
-chars-fit r (finish eof places) e =
-    by-lt (length places) 2 (λ h. let z : ⊥ = omega (arith, rw (lt-ltb (length places) 2 h) at e) in absurd z)
-    (λ h. omega (arith, finish-room r eof))
+    omega (arith, scan-room p o r chunk, scan-passed (r .count) p chunk (length places) e .1)
+chars-fit r (finish eof places) e = omega (arith, finish-room r eof, room-passed 2 (length places) e)
 
 -- the count after an accepted call
 next-count : (r : TextInput) (c : Call) → nextOf r c .count ≡ countWith (r .count) c
@@ -111,19 +107,12 @@ count-listed (c ∷ cs) r (s ∷ seen) h =
     rw e (count-by (eqb (refusalBy (r .count) c) 0) c cs r seen (λ n g. count-listed cs n seen g) (rw e at (h .1)))
 
 -- ---- the accepted chunks are characters
--- a scan that nothing refuses is one of characters
-zero-chars : (count n room : ℕ) (page chars : Bool) → refusalOf count page chars n room ≡ 0 → chars ≡ true
-unfolding refusalOf
-zero-chars count n room true true h = refl
-zero-chars count n room true false h = let e : ⊥ = omega (arith, h) in absurd e
-zero-chars count n room false chars h = let e : ⊥ = omega (arith, h) in absurd e
-
 chars-by : (b : Bool) (n : ℕ) (c : Call) (cs : List Call) → eqb (refusalBy n c) 0 ≡ b →
     ((m : ℕ) → areChars (flatten (chunksOf (acceptedFrom m cs))) ≡ true) → areChars (flatten (chunksOf (leftBy b n c cs))) ≡ true
 unfolding flatten
 chars-by true n (scan p o chunk places) cs e ih =
     chars-append chunk (flatten (chunksOf (acceptedFrom (n + length chunk) cs)))
-    (zero-chars n (length chunk) (length places) (accepted p) (areChars chunk) (eqb-true _ 0 e)) (ih (n + length chunk))
+    (scan-passed n p chunk (length places) (eqb-true _ 0 e) .0 .are-chars) (ih (n + length chunk))
 chars-by true n (finish eof places) cs e ih = ih n
 chars-by false n c cs e ih = ih n
 

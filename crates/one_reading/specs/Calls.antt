@@ -4,14 +4,12 @@ use Prim.Native.Nat.{ℕ, _+_}
 use mathlib.Core.Bool.{Bool, true, cond}
 use mathlib.Core.List.{List, [], _∷_, _++_, flatten}
 use mathlib.Core.Path.{_≡_}
-use lib.Dec.{eqb, ltb}
+use lib.Dec.{eqb}
 use lib.ListN.{length}
-use Rattle.unicode.specs.Chars.{areChars}
-use Rattle.page.specs.Page.{accepted}
 use Rattle.text_input.specs.declared.Options.{Options}
 use Rattle.text_input.specs.declared.TextInput.{TextInput}
 use Rattle.common.specs.Answers.{wroteIn}
-use Rattle.text_input.specs.Scan.{Outcome, refusalOf, scanOf, finishOf}
+use Rattle.text_input.specs.Scan.{Outcome, roomRefusal, scanRefusal, scanOf, finishOf}
 use Rattle.text_input.specs.Streams.{withoutBomFirst}
 
 -- ---- the calls
@@ -48,8 +46,8 @@ recordAfter r (s ∷ seen) = recordAfter (s .next) seen
 -- "The refusal conditions alone decide which calls are accepted, with the number of characters in the chunks accepted so far as the
 -- count." The number of the refusal, and 0 for none.
 abbrev pub refusalBy : ℕ → Call → ℕ
-refusalBy count (scan page options chunk places) = refusalOf count (accepted page) (areChars chunk) (length chunk) (length places)
-refusalBy count (finish eof places) = cond (ltb (length places) 2) 8 0
+refusalBy count (scan page options chunk places) = scanRefusal count page chunk (length places)
+refusalBy count (finish eof places) = roomRefusal 2 (length places)
 
 -- the count with an accepted call's characters
 abbrev pub countWith : ℕ → Call → ℕ

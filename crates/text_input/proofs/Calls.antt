@@ -1,4 +1,6 @@
 -- What an accepted call may rely on, and that answer, record and places are then the definition's.
+--     chunk-passed, room-passed   what the two halves of a refusal that is none show
+--     passed                      and both together
 --     refused-is                  a scan that is refused
 --     counts, enough, accepted-is an accepted scan: the count stays within its limit, what it appends has room, its outcome
 --     finish-refused, finished-is a finish
@@ -7,12 +9,12 @@ use mathlib.Core.Bool.{Bool, true, false, cond, not, _&&_, _||_}
 use mathlib.Core.List.{List, [], _∷_, _++_}
 use Prim.Native.Nat.{ℕ, zero, suc, _+_, _-_, _*_, _≤_, _<_}
 use native.Mathlib.Omega.{arith}
-use borrow.Author.Tests.{ltb-false, eq-eqb, ne-eqb, lt-ltb, le-ltb}
+use borrow.Author.Tests.{ltb-false, eqb-true, eqb-false, eq-eqb, ne-eqb, lt-ltb, le-ltb}
 use lib.Dec.{eqb, ltb, leb}
 use lib.ListN.{length, take, drop, length-drop}
 use lib.Seq.{sets}
 use Rattle.unicode.specs.Chars.{areChars}
-use Rattle.common.proofs.Kit.{split}
+use Rattle.common.proofs.Kit.{by, split}
 use Rattle.common.proofs.Lists.{rest-is}
 use Rattle.page.specs.Page.{accepted}
 use Rattle.common.specs.declared.Answer.the-variants.{Written}
@@ -21,18 +23,45 @@ use Rattle.text_input.specs.declared.Options.{Options}
 use Rattle.text_input.specs.declared.TextInput.{TextInput}
 use Rattle.text_input.specs.declared.step.Lead.{Lead}
 use Rattle.text_input.specs.Step.{leadChars, lastOf}
-use Rattle.text_input.specs.Scan.{outs, ends, placesForChunk, refusalOf, scanRefusal, leadingBom, skipped, opened, outcome, refused, scanOf, pendingOf, afterLine, endMarkOf, newlineOf, finishChars, finishNext, finishOf}
+use Rattle.text_input.specs.Scan.{outs, ends, maxCount, placesForChunk, chunkRefusal, roomRefusal, refusalOf, scanRefusal, leadingBom, skipped, opened, outcome, refused, scanOf, pendingOf, afterLine, endMarkOf, newlineOf, finishChars, finishNext, finishOf}
 use Rattle.text_input.proofs.Kit.{last-three}
 use Rattle.text_input.proofs.Room.{part-room, ending-room}
 
+-- ---- a refusal that is none
+tests-passed : (a b d : Bool) → _≡_ {A = ℕ} (cond (not a) 2 (cond (not b) 1 (cond d 10 0))) 0 → (a ≡ true) × (b ≡ true) × (d ≡ false)
+tests-passed true true false h = (refl, refl, refl)
+tests-passed true true true h = absurd (omega arith)
+tests-passed true false d h = absurd (omega arith)
+tests-passed false b d h = absurd (omega arith)
+
+both-none : (a b : ℕ) → cond (eqb a 0) b a ≡ 0 → (a ≡ 0) × (b ≡ 0)
+both-none a b h =
+    by (eqb a 0) (λ e. (eqb-true a 0 e, rw e at h))
+    (λ e. let z : a ≡ 0 = rw e at h in absurd (eqb-false a 0 e z))
+
+pub record ChunkPassed (count : ℕ) (page chars : Bool) (n : ℕ) : Type 0 where
+  pub right-page : page ≡ true
+  pub are-chars : chars ≡ true
+  pub counts : count + n ≤ maxCount
+
+pub chunk-passed : (count : ℕ) (page chars : Bool) (n : ℕ) → chunkRefusal count page chars n ≡ 0 → ChunkPassed count page chars n
+unfolding chunkRefusal
+chunk-passed count page chars n h =
+    let t = tests-passed page chars (ltb maxCount (count + n)) h in
+    record { right-page = t .0; are-chars = t .1; counts = ltb-false maxCount (count + n) (t .2) }
+
+pub room-passed : (needed room : ℕ) → roomRefusal needed room ≡ 0 → needed ≤ room
+room-passed needed room h =
+    by (ltb room needed) (λ e. let z : ⊥ = omega (arith, rw e at h) in absurd z) (λ e. ltb-false room needed e)
+
+pub passed : (count : ℕ) (page chars : Bool) (n needed room : ℕ) → refusalOf count page chars n needed room ≡ 0 →
+    ChunkPassed count page chars n × (needed ≤ room)
+unfolding refusalOf
+passed count page chars n needed room h =
+    let b = both-none (chunkRefusal count page chars n) (roomRefusal needed room) h in
+    (chunk-passed count page chars n (b .0), room-passed needed room (b .1))
+
 -- ---- a scan
--- the tests behind a refusal that is none
-passed : (a b d e : Bool) → _≡_ {A = ℕ} (cond (not a) 2 (cond (not b) 1 (cond d 10 (cond e 8 0)))) 0 → (a ≡ true) × (d ≡ false) × (e ≡ false)
-passed true true false false h = (refl, refl, refl)
-passed true true false true h = absurd (omega arith)
-passed true true true e h = absurd (omega arith)
-passed true false d e h = absurd (omega arith)
-passed false b d e h = absurd (omega arith)
 
 bom-le : (cs : List ℕ) → leadingBom cs ≤ length cs
 bom-le [] = omega arith
@@ -45,21 +74,20 @@ bom-le (c ∷ cs) = one (eqb c 0xFEFF)
 skip-le : (r : TextInput) (chunk : List ℕ) → skipped r chunk ≤ length chunk
 skip-le r chunk = split (λ n. n ≤ length chunk) (r .«at_start») (λ h. bom-le chunk) (λ h. omega arith)
 
-module _ (r : TextInput) (p : List ℕ) (o : Options) (chunk queue : List ℕ) (n : ℕ) (e : n ≡ scanRefusal r p chunk (length queue)) where
+module _ (r : TextInput) (p : List ℕ) (o : Options) (chunk queue : List ℕ) (n : ℕ) (e : n ≡ scanRefusal (r .count) p chunk (length queue)) where
   pub refused-is : (n ≡ 0 → ⊥) → refused r n queue ≡ scanOf r p o chunk queue
   unfolding scanOf
   refused-is h = rw (← e, ne-eqb n 0 h)
 
   module _ (z : n ≡ 0) where
-    told : (accepted p ≡ true) × (ltb 4294967295 (r .count + length chunk) ≡ false) × (ltb (length queue) (placesForChunk (length chunk)) ≡ false)
-    unfolding refusalOf
-    told = passed (accepted p) (areChars chunk) _ _ (sym e ∙ z)
+    told : ChunkPassed (r .count) (accepted p) (areChars chunk) (length chunk) × (placesForChunk (length chunk) ≤ length queue)
+    told = passed (r .count) (accepted p) (areChars chunk) (length chunk) (placesForChunk (length chunk)) (length queue) (sym e ∙ z)
 
     pub right-page : accepted p ≡ true
-    right-page = told .0
+    right-page = told .0 .right-page
 
-    pub counts : r .count + length chunk ≤ 4294967295
-    counts = ltb-false 4294967295 (r .count + length chunk) (told .1)
+    pub counts : r .count + length chunk ≤ maxCount
+    counts = told .0 .counts
 
     module _ (from : ℕ) (f : from ≡ skipped r chunk) where
       pub from-le : from ≤ length chunk
@@ -68,7 +96,7 @@ module _ (r : TextInput) (p : List ℕ) (o : Options) (chunk queue : List ℕ) (
       module _ (fresh : TextInput) (g : fresh ≡ opened r (length chunk)) where
         pub enough : length (outs p o fresh (take (length chunk - from) (drop from chunk))) ≤ length queue
         enough =
-            rw rest-is (omega (arith, part-room p o fresh from chunk, ltb-false (length queue) (placesForChunk (length chunk)) (told .2)))
+            rw rest-is (omega (arith, part-room p o fresh from chunk, told .1))
 
         pub accepted-is : (k : ℕ) (next : TextInput) (q : List ℕ) →
             (k ≡ length (outs p o fresh (take (length chunk - from) (drop from chunk))))

@@ -79,15 +79,29 @@ abbrev pub placesForChunk : ℕ → ℕ
 placesForChunk zero = 0
 placesForChunk (suc n) = 3 * suc n + 1
 
--- "Order: 2, 1, 10, 8." The number of the refusal, and 0 for none, by the record's count, whether the page is accepted, whether
--- every value is a character, how many these are, and the free places. "10 the count would pass 4,294,967,295."
--- "8 too few free places."; so "a scan saying 8 with places free (demand 2, the refusal conditions)" does not pass
-unfoldable pub refusalOf : ℕ → Bool → Bool → ℕ → ℕ → ℕ
-refusalOf count page chars n room =
-    cond (not page) 2 (cond (not chars) 1 (cond (ltb 4294967295 (count + n)) 10 (cond (ltb room (placesForChunk n)) 8 0)))
+-- "a 32-bit count"
+abbrev pub maxCount : ℕ
+maxCount = 4294967295
 
-abbrev pub scanRefusal : TextInput → List ℕ → List ℕ → ℕ → ℕ
-scanRefusal r p chunk room = refusalOf (r .count) (accepted p) (areChars chunk) (length chunk) room
+-- A refusal's number, and 0 for none. Whatever the places, by the record's count, whether the page is accepted, whether every value is
+-- a character, and how many these are: "2 a wrong page", 1 for a value that is no character, "10 the count would pass 4,294,967,295".
+unfoldable pub chunkRefusal : ℕ → Bool → Bool → ℕ → ℕ
+chunkRefusal count page chars n = cond (not page) 2 (cond (not chars) 1 (cond (ltb maxCount (count + n)) 10 0))
+
+-- By the places that are needed and those that are lent: "8 too few free places."; so "a scan saying 8 with places free (demand 2, the
+-- refusal conditions)" does not pass.
+abbrev pub roomRefusal : ℕ → ℕ → ℕ
+roomRefusal needed room = cond (ltb room needed) 8 0
+
+-- "Order: 2, 1, 10, 8."
+unfoldable pub refusalOf : ℕ → Bool → Bool → ℕ → ℕ → ℕ → ℕ
+refusalOf count page chars n needed room =
+    cond (eqb (chunkRefusal count page chars n) 0) (roomRefusal needed room) (chunkRefusal count page chars n)
+
+-- a scan's, by the record's count, the page, the chunk and the number of places
+abbrev pub scanRefusal : ℕ → List ℕ → List ℕ → ℕ → ℕ
+scanRefusal count p chunk room =
+    refusalOf count (accepted p) (areChars chunk) (length chunk) (placesForChunk (length chunk)) room
 
 -- how many characters a leading FEFF is
 abbrev pub leadingBom : List ℕ → ℕ
@@ -119,8 +133,8 @@ scanNext p o r chunk = scanRun p o r chunk .next
 -- "(scan, finish and filling use the queue unisolated, isolation is an entry of its own)"
 unfoldable pub scanOf : TextInput → List ℕ → Options → List ℕ → List ℕ → Outcome
 scanOf r p o chunk queue =
-    cond (eqb (scanRefusal r p chunk (length queue)) 0) (written (scanNext p o r chunk) (scanChars p o r chunk) queue)
-    (refused r (scanRefusal r p chunk (length queue)) queue)
+    cond (eqb (scanRefusal (r .count) p chunk (length queue)) 0) (written (scanNext p o r chunk) (scanChars p o r chunk) queue)
+    (refused r (scanRefusal (r .count) p chunk (length queue)) queue)
 
 -- ---- a finish: the status block of `read_with_status`
 -- "A pending 0D gives 0A, a pending page run 20, an open escape nothing."

@@ -31,13 +31,12 @@ use unicode::are_chars;
 ghost use mathlib.Core.Path.{_≡_};
 ghost use mathlib.Core.Bool.{true};
 ghost use Prim.Native.Nat.{_+_, _≤_, _<_};
-ghost use lib.Dec.{leb};
 ghost use lib.ListN.{length, drop};
 ghost use lib.Seq.{sets};
 ghost use Rattle.page.specs.Page.{accepted};
 ghost use Rattle.stretch.specs.Plain.{Gap};
 ghost use Rattle.text_input.specs.Step.{scanStepOf, outChars};
-ghost use Rattle.text_input.specs.Scan.{fresh, outs, ends, placesForChunk, refusalOf, skipped, opened, outcome, scanOf, pendingOf, afterLine, endMarkOf, newlineOf, finishOf};
+ghost use Rattle.text_input.specs.Scan.{fresh, outs, ends, maxCount, chunkRefusal, roomRefusal, placesForChunk, refusalOf, skipped, opened, outcome, scanOf, pendingOf, afterLine, endMarkOf, newlineOf, finishOf};
 ghost use Rattle.text_input.specs.Inner.{grounded, steady, passedBy, Moves};
 
 // What the characters so far leave open. `Ground`: nothing; its flag is true after a newline, and before the first character.
@@ -101,6 +100,9 @@ pub struct Ran {
 impl TextInput {
     // The least size of a byte buffer to fill, which `text_input_fill` tests: 136.
     pub const NORMALIZATION_BUFFER_SIZE: usize = unicode::NORMALIZATION_BUFFER_SIZE;
+
+    // The most characters that the count holds.
+    pub const MAX_COUNT: usize = 4294967295;
 
     // A record as first made.
     pub fn new() -> Self
@@ -235,7 +237,7 @@ impl TextInput {
 
     // The record of an accepted scan of n characters, before the first of them. Inner: asks that the count stays within its limit.
     pub fn open(self, n: u32) -> Self
-        requires { ⌜ self .count + n < 4294967296 ⌝ }
+        requires { ⌜ self .count + n ≤ maxCount ⌝ }
         ensures { λ r. ⌜ r ≡ opened self n ⌝ }
     {
         let state = self.state;
@@ -308,34 +310,49 @@ impl TextInput {
     }
 }
 
-// Whether so many places are enough for n characters. The test is 3 × n + 1 ≤ room without a product that could wrap.
-fn has_room(n: usize, room: usize) -> bool
-    ensures { λ r. ⌜ r ≡ leb (placesForChunk n) room ⌝ }
-{
-    if n == 0 {
-        return true;
-    }
-    if room == 0 {
-        return false;
-    }
-    n <= (room - 1) / 3
-}
-
-// The number by which a scan of n characters is refused, and 0 where it is accepted: by the record's count, whether the page is
-// accepted, whether every value is a character, and the free places. Total.
-pub fn refusal(count: u32, page: bool, chars: bool, n: usize, room: usize) -> u32
-    ensures { λ r. ⌜ r ≡ refusalOf count page chars n room ⌝ }
+// The number by which a chunk of n characters is refused whatever the places, and 0 for none: by the record's count, whether the page
+// is accepted, and whether every value is a character. Total.
+fn chunk_refusal(count: u32, page: bool, chars: bool, n: usize) -> u32
+    ensures { λ r. ⌜ r ≡ chunkRefusal count page chars n ⌝ }
 {
     if !page {
         WRONG_PAGE
     } else if !chars {
         NOT_A_CHAR
-    } else if 4294967295 - (count as usize) < n {
+    } else if TextInput::MAX_COUNT - (count as usize) < n {
         COUNT_LIMIT
-    } else if has_room(n, room) {
-        0
     } else {
-        NO_ROOM
+        0
+    }
+}
+
+// The number by which a call that needs so many places is refused, and 0 for none. Total.
+fn room_refusal(needed: usize, room: usize) -> u32
+    ensures { λ r. ⌜ r ≡ roomRefusal needed room ⌝ }
+{
+    if room < needed { NO_ROOM } else { 0 }
+}
+
+// How many places a chunk of n characters needs. Inner: asks for a chunk that the count can hold, so that the sum cannot wrap.
+fn places_for(n: usize) -> usize
+    requires { ⌜ n ≤ maxCount ⌝ }
+    ensures { λ r. ⌜ r ≡ placesForChunk n ⌝ }
+{
+    if n == 0 {
+        return 0;
+    }
+    3 * n + 1
+}
+
+// The number by which a scan of n characters is refused, and 0 where it is accepted: first whatever the places, then by these. Total.
+pub fn refusal(count: u32, page: bool, chars: bool, n: usize, room: usize) -> u32
+    ensures { λ r. ⌜ r ≡ refusalOf count page chars n (placesForChunk n) room ⌝ }
+{
+    let no = chunk_refusal(count, page, chars, n);
+    if no == 0 {
+        room_refusal(places_for(n), room)
+    } else {
+        no
     }
 }
 

@@ -7,7 +7,7 @@ use borrow.Author.Needs.{needs}
 use lib.ListN.{length}
 use Rattle.unicode.specs.Chars.{areChars}
 use Rattle.page.specs.Page.{accepted}
-use Rattle.text_input.specs.Scan.{refusalOf}
+use Rattle.text_input.specs.Scan.{maxCount, placesForChunk, refusalOf}
 use Rattle.basic_text.specs.Exports.{numbersOf}
 use Rattle.basic_text.proofs.Laws.{Bytes}
 use Rattle.basic_text.proofs.Calls.{scan-refused, right-page, few, inside, room, scan-accepted}
@@ -21,13 +21,14 @@ Entry c = c .before .before .before .before .before .before
 no : (c : tie.After-refusal) →
     let a = Entry c .args in
     c .refusal .result
-    ≡ refusalOf (a .r .count) (accepted (a .page .now)) (areChars (numbersOf (a .chunk .now))) (length (a .chunk .now) / 4) (length (a .queue .now) / 4)
+    ≡ refusalOf (a .r .count) (accepted (a .page .now)) (areChars (numbersOf (a .chunk .now))) (length (a .chunk .now) / 4) (placesForChunk (length (a .chunk .now) / 4))
+    (length (a .queue .now) / 4)
 no c = rw (← c .before .hold-chars .ensures, ← c .before .before .is-accepted .ensures) (c .refusal .ensures)
 
 bytes : (c : tie.After-refusal) → Bytes (Entry c .args .queue .now)
 bytes c i = omega (arith, c .before .before .before .slice-known .given i)
 
-small : (c : tie.Then1) → let a = Entry (c .before) .args in a .r .count + length (a .chunk .now) / 4 ≤ 4294967295
+small : (c : tie.Then1) → let a = Entry (c .before) .args in a .r .count + length (a .chunk .now) / 4 ≤ maxCount
 small c =
     let a = Entry (c .before) .args in
     few (a .r) (a .page .now) (a .options) (a .chunk .now) (a .queue .now) _ (no (c .before)) (c .if1 .taken)

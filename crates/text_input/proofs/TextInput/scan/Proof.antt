@@ -6,7 +6,7 @@ use native.Mathlib.Omega.{arith}
 use lib.ListN.{length}
 use mathlib.Core.Path.{_≡_, _∙_}
 use borrow.Author.Needs.{needs}
-use Rattle.text_input.specs.Scan.{scanRefusal}
+use Rattle.text_input.specs.Scan.{maxCount, scanRefusal}
 use Rattle.text_input.proofs.Calls.{refused-is, right-page, counts, from-le, enough, accepted-is}
 use Rattle.text_input.proofs.TextInput.scan.Statement.{statement}
 use Rattle.text_input.proofs.TextInput.scan.Tie as tie
@@ -14,12 +14,12 @@ use Rattle.text_input.proofs.TextInput.scan.Tie as tie
 -- the refusal's number is the definition's
 number : (c : tie.After-refusal) →
     let a = c .before .before .before .before .before .before .args in
-    c .refusal .result ≡ scanRefusal (a .self) (now (a .page)) (now (a .chunk)) (length (now (a .queue)))
+    c .refusal .result ≡ scanRefusal (a .self .count) (now (a .page)) (now (a .chunk)) (length (now (a .queue)))
 number c = rw (← c .before .are-chars .ensures, ← c .before .before .is-accepted .ensures) (c .refusal .ensures)
 
 few : (c : tie.Then1) →
     let a = c .before .before .before .before .before .before .before .args in
-    a .self .count + length (now (a .chunk)) ≤ 4294967295
+    a .self .count + length (now (a .chunk)) ≤ maxCount
 few c =
     let a = c .before .before .before .before .before .before .before .args in
     counts (a .self) (now (a .page)) (a .options) (now (a .chunk)) (now (a .queue)) _ (number (c .before)) (c .if1 .taken)
