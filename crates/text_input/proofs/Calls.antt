@@ -1,13 +1,17 @@
 -- What an accepted call may rely on, and that answer, record and places are then the definition's.
 --     chunk-passed, room-passed   what the two halves of a refusal that is none show
 --     passed                      and both together
---     refused-is                  a scan that is refused
---     counts, enough, accepted-is an accepted scan: the count stays within its limit, what it appends has room, its outcome
+--     Asked                       a scan that is asked for, and the number of its refusal
+--     refused-is                  its outcome where it is refused
+--     right-page, counts, from-le, enough, accepted-is
+--                                 where it is accepted: the page is, the count stays within its limit, the chunk has what is skipped,
+--                                 what it appends has room, and its outcome
 --     finish-refused, finished-is a finish
 use mathlib.Core.Path.{_≡_, refl, sym, _∙_}
 use mathlib.Core.Bool.{Bool, true, false, cond, not, _&&_, _||_}
 use mathlib.Core.List.{List, [], _∷_, _++_}
 use Prim.Native.Nat.{ℕ, zero, suc, _+_, _-_, _*_, _≤_, _<_}
+use native.Mathlib.Nat.{zero-add}
 use native.Mathlib.Omega.{arith}
 use borrow.Author.Tests.{ltb-false, eqb-true, eqb-false, eq-eqb, ne-eqb, lt-ltb, le-ltb}
 use lib.Dec.{eqb, ltb, leb}
@@ -15,7 +19,6 @@ use lib.ListN.{length, take, drop, length-drop}
 use lib.Seq.{sets}
 use Rattle.unicode.specs.Chars.{areChars}
 use Rattle.common.proofs.Kit.{by, split}
-use Rattle.common.proofs.Lists.{rest-is}
 use Rattle.page.specs.Page.{accepted}
 use Rattle.common.specs.declared.Answer.the-variants.{Written}
 use Rattle.text_input.specs.declared.State.the-variants.{Ground}
@@ -23,7 +26,9 @@ use Rattle.text_input.specs.declared.Options.{Options}
 use Rattle.text_input.specs.declared.TextInput.{TextInput}
 use Rattle.text_input.specs.declared.step.Lead.{Lead}
 use Rattle.text_input.specs.Step.{leadChars, lastOf}
-use Rattle.text_input.specs.Scan.{outs, ends, maxCount, placesForChunk, chunkRefusal, roomRefusal, refusalOf, scanRefusal, leadingBom, skipped, opened, outcome, refused, scanOf, pendingOf, afterLine, endMarkOf, newlineOf, finishChars, finishNext, finishOf}
+use Rattle.text_input.specs.Scan.{runOf, outs, maxCount, placesForChunk, chunkRefusal, roomRefusal, refusalOf, scanRefusal, leadingBom, skipped, opened, Outcome, outcome, refused, scanOf, pendingOf, afterLine, endMarkOf, newlineOf, finishChars, finishNext, finishOf}
+use Rattle.text_input.specs.declared.Ran.{Ran}
+use Rattle.text_input.specs.Inner.{ranBy}
 use Rattle.text_input.proofs.Kit.{last-three}
 use Rattle.text_input.proofs.Room.{part-room, ending-room}
 
@@ -74,37 +79,51 @@ bom-le (c ∷ cs) = one (eqb c 0xFEFF)
 skip-le : (r : TextInput) (chunk : List ℕ) → skipped r chunk ≤ length chunk
 skip-le r chunk = split (λ n. n ≤ length chunk) (r .«at_start») (λ h. bom-le chunk) (λ h. omega arith)
 
-module _ (r : TextInput) (p : List ℕ) (o : Options) (chunk queue : List ℕ) (n : ℕ) (e : n ≡ scanRefusal (r .count) p chunk (length queue)) where
-  pub refused-is : (n ≡ 0 → ⊥) → refused r n queue ≡ scanOf r p o chunk queue
+-- a scan that is asked for, and the number of its refusal
+pub record Asked : Type 0 where
+  pub r : TextInput
+  pub page : List ℕ
+  pub options : Options
+  pub chunk : List ℕ
+  pub queue : List ℕ
+  pub no : ℕ
+  pub is : no ≡ scanRefusal (r .count) page chunk (length queue)
+
+abbrev pub whole : Asked → Outcome
+whole a = scanOf (a .r) (a .page) (a .options) (a .chunk) (a .queue)
+
+module _ (a : Asked) where
+  pub refused-is : (a .no ≡ 0 → ⊥) → refused (a .r) (a .no) (a .queue) ≡ whole a
   unfolding scanOf
-  refused-is h = rw (← e, ne-eqb n 0 h)
+  refused-is h = rw (← a .is, ne-eqb (a .no) 0 h)
 
-  module _ (z : n ≡ 0) where
-    told : ChunkPassed (r .count) (accepted p) (areChars chunk) (length chunk) × (placesForChunk (length chunk) ≤ length queue)
-    told = passed (r .count) (accepted p) (areChars chunk) (length chunk) (placesForChunk (length chunk)) (length queue) (sym e ∙ z)
+  module _ (z : a .no ≡ 0) where
+    told : ChunkPassed (a .r .count) (accepted (a .page)) (areChars (a .chunk)) (length (a .chunk))
+        × (placesForChunk (length (a .chunk)) ≤ length (a .queue))
+    told =
+        passed (a .r .count) (accepted (a .page)) (areChars (a .chunk)) (length (a .chunk)) (placesForChunk (length (a .chunk)))
+        (length (a .queue)) (sym (a .is) ∙ z)
 
-    pub right-page : accepted p ≡ true
+    pub right-page : accepted (a .page) ≡ true
     right-page = told .0 .right-page
 
-    pub counts : r .count + length chunk ≤ maxCount
+    pub counts : a .r .count + length (a .chunk) ≤ maxCount
     counts = told .0 .counts
 
-    module _ (from : ℕ) (f : from ≡ skipped r chunk) where
-      pub from-le : from ≤ length chunk
-      from-le = rw f (skip-le r chunk)
+    module _ (from : ℕ) (f : from ≡ skipped (a .r) (a .chunk)) where
+      pub from-le : from ≤ length (a .chunk)
+      from-le = rw f (skip-le (a .r) (a .chunk))
 
-      module _ (fresh : TextInput) (g : fresh ≡ opened r (length chunk)) where
-        pub enough : length (outs p o fresh (take (length chunk - from) (drop from chunk))) ≤ length queue
-        enough =
-            rw rest-is (omega (arith, part-room p o fresh from chunk, told .1))
+      module _ (first : TextInput) (g : first ≡ opened (a .r) (length (a .chunk))) where
+        pub enough : length (outs (a .page) (a .options) first (drop from (a .chunk))) ≤ length (a .queue)
+        enough = omega (arith, part-room (a .page) (a .options) first from (a .chunk), told .1)
 
-        pub accepted-is : (k : ℕ) (next : TextInput) (q : List ℕ) →
-            (k ≡ length (outs p o fresh (take (length chunk - from) (drop from chunk))))
-            × ((next ≡ ends p o fresh (take (length chunk - from) (drop from chunk)))
-            × (q ≡ sets queue 0 (outs p o fresh (take (length chunk - from) (drop from chunk)))))
-            → outcome (record { answer = Written k; next = next }) q ≡ scanOf r p o chunk queue
+        pub accepted-is : (ran : Ran) (q : List ℕ) →
+            (ran ≡ ranBy 0 (runOf (a .page) (a .options) first (drop from (a .chunk))))
+            × (q ≡ sets (a .queue) 0 (outs (a .page) (a .options) first (drop from (a .chunk))))
+            → outcome (record { answer = Written (ran .written); next = ran .next }) q ≡ whole a
         unfolding scanOf
-        accepted-is k next q h = rw (← e, eq-eqb n 0 z, h .0, h .1 .0, h .1 .1, rest-is, f, g)
+        accepted-is ran q h = rw (← a .is, eq-eqb (a .no) 0 z, h .0, h .1, zero-add, f, g)
 
 -- ---- a finish
 module _ (r : TextInput) (eof : Bool) (queue : List ℕ) where

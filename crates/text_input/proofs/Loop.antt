@@ -1,84 +1,54 @@
--- The loop of `run` on lists. At its head what is left of the chunk, from the record at hand and stored from place k on, leads to the
--- same end as the whole chunk stored from the first place on.
---     Going     what holds at the head of the loop
---     begin     at the start, where there is room for the whole
---     left      there is room for what is left
---     again     after `advance`
---     ended     after the last character
-use mathlib.Core.Path.{_≡_, refl, sym, ap, _∙_}
-use mathlib.Core.List.{List, [], _++_}
+-- The loop of `run` on lists: the scanner's way over a chunk (`stretch`, proofs/Way.antt).
+--     scanWay    what a run gives and where it leads, however it is stored
+--     left       there is room for what is left
+--     moved      after `advance`
+--     ran        after the last character
+use mathlib.Core.Path.{_≡_, ap}
+use mathlib.Core.List.{List, []}
 use Prim.Native.Nat.{ℕ, _+_, _≤_}
-use native.Mathlib.Nat.{zero-add}
 use native.Mathlib.Omega.{arith}
-use lib.ListN.{length, drop, length-append}
-use lib.Seq.{sets, length-sets, drop-length}
-use Rattle.ranges.specs.declared.Range.{Range}
+use lib.ListN.{length, drop}
 use Rattle.stretch.specs.Stretch.{part}
-use Rattle.stretch.specs.Plain.{Gap}
 use Rattle.stretch.proofs.Parts.{cut}
+use Rattle.stretch.proofs.Way.{Store, inPlaces, Way, Going, again, ended}
 use Rattle.text_input.specs.declared.Options.{Options}
 use Rattle.text_input.specs.declared.TextInput.{TextInput}
 use Rattle.text_input.specs.declared.Moved.{Moved}
-use Rattle.text_input.specs.Scan.{outs, ends}
-use Rattle.text_input.specs.Inner.{Moves}
-use Rattle.common.proofs.Lists.{sets-append}
+use Rattle.text_input.specs.declared.Ran.{Ran}
+use Rattle.text_input.specs.Scan.{runOf, outs, ends}
+use Rattle.text_input.specs.Inner.{ranBy, Moves}
 use Rattle.text_input.proofs.Chunks.{outs-append, ends-append}
+use Rattle.text_input.proofs.Stretch.{ran-is}
 
-module _ (p : List ℕ) (o : Options) (chunk queue₀ : List ℕ) (r₀ : TextInput) where
-  pub record Going (queue : List ℕ) (r : TextInput) (gap : Range) (k i : ℕ) : Type 0 where
-    pub low : i ≤ length chunk
-    pub same : length queue ≡ length queue₀
-    pub count : k + length (outs p o r (drop i chunk)) ≡ length (outs p o r₀ chunk)
-    pub next : ends p o r (drop i chunk) ≡ ends p o r₀ chunk
-    pub stored : sets queue k (outs p o r (drop i chunk)) ≡ sets queue₀ 0 (outs p o r₀ chunk)
-    pub plain : Gap gap
+abbrev pub scanWay : Store → List ℕ → Options → Way TextInput
+scanWay store p o =
+    record {
+      store = store;
+      gives = outs p o;
+      leads = ends p o;
+      whole = outs p o;
+      whole-append = outs-append p o;
+      leads-append = ends-append p o;
+    }
 
-  pub begin : (gap : Range) → Gap gap → length (outs p o r₀ chunk) ≤ length queue₀ → Going queue₀ r₀ gap 0 0
-  begin gap ps room =
-      record {
-        low = omega arith;
-        same = refl;
-        count = rw zero-add;
-        next = refl;
-        stored = refl;
-        plain = ps;
-      }
+-- the chunk cs from place `from` on
+module _ (store : Store) (p : List ℕ) (o : Options) (cs : List ℕ) (from : ℕ) (queue₀ : List ℕ) (r₀ : TextInput)
+    (queue : List ℕ) (r : TextInput) (k i : ℕ) (g : Going (scanWay store p o) cs from queue₀ r₀ queue r k i) where
+  pub ran : length cs ≤ i →
+      (_≡_ {A = Ran} (record { written = k; next = r }) (ranBy 0 (runOf p o r₀ (drop from cs))))
+      × (store .put queue k [] ≡ store .put queue₀ 0 (outs p o r₀ (drop from cs)))
+  ran past =
+      let e = ended (scanWay store p o) cs from queue₀ r₀ queue r k i g past in
+      (ran-is (omega (arith, e .0)) (e .1 .0), e .1 .1)
 
-  module _ (queue : List ℕ) (r : TextInput) (gap : Range) (k i : ℕ) (g : Going queue r gap k i) where
-    pub ended : length chunk ≤ i → (k ≡ length (outs p o r₀ chunk)) × ((r ≡ ends p o r₀ chunk) × (queue ≡ sets queue₀ 0 (outs p o r₀ chunk)))
-    ended past =
-        let e : i ≡ length chunk = omega (arith, g .low) in
-        let n : drop i chunk ≡ [] = rw (e, drop-length) in (
-          omega (arith, simp n at (g .count)),
-          (simp n at (g .next), simp n at (g .stored)),
-        )
+module _ (p : List ℕ) (o : Options) (chunk queue₀ : List ℕ) (r₀ : TextInput) (queue : List ℕ) (r : TextInput) (k i : ℕ)
+    (g : Going (scanWay inPlaces p o) chunk 0 queue₀ r₀ queue r k i) where
+  pub left : length (outs p o r₀ chunk) ≤ length queue₀ → k + length (outs p o r (drop i chunk)) ≤ length queue
+  left room = omega (arith, g .count, g .same)
 
-    pub left : length (outs p o r₀ chunk) ≤ length queue₀ → k + length (outs p o r (drop i chunk)) ≤ length queue
-    left room = omega (arith, g .count, g .same)
-
-    module _ (m : Moved) (after : List ℕ) (v : Moves p o r chunk i queue k m after) where
-      abbrev here : List ℕ
-      here = outs p o r (part i (m .at) chunk)
-
-      abbrev rest : List ℕ
-      rest = drop (m .at) chunk
-
-      split : drop i chunk ≡ part i (m .at) chunk ++ rest
-      split = cut chunk i (m .at) (omega (arith, v .on))
-
-      both : outs p o r (drop i chunk) ≡ here ++ outs p o (m .next) rest
-      both = ap (outs p o r) split ∙ outs-append p o r (part i (m .at) chunk) rest ∙ rw (v .next)
-
-      size : length (outs p o r (drop i chunk)) ≡ length here + length (outs p o (m .next) rest)
-      size = ap length both ∙ length-append here (outs p o (m .next) rest)
-
-      pub again : Going after (m .next) (m .gap) (m .written) (m .at)
-      again =
-          record {
-            low = v .low;
-            same = ap length (v .places) ∙ length-sets queue k here ∙ g .same;
-            count = omega (arith, size, v .written, g .count);
-            next = rw (v .next) (sym (ends-append p o r (part i (m .at) chunk) rest) ∙ rw split at (g .next));
-            stored = rw (v .places, v .written) (sym (sets-append here (outs p o (m .next) rest) queue k) ∙ rw both at (g .stored));
-            plain = v .gap;
-          }
+  pub moved : (m : Moved) (after : List ℕ) → Moves p o r chunk i queue k m after →
+      Going (scanWay inPlaces p o) chunk 0 queue₀ r₀ after (m .next) (m .written) (m .at)
+  moved m after v =
+      again (scanWay inPlaces p o) chunk 0 queue₀ r₀ queue r k i g (part i (m .at) chunk) (m .at)
+      (cut chunk i (m .at) (omega (arith, v .on))) (v .low) after (m .next) (m .written)
+      (ap (λ (x : Ran). x .written) (v .ran)) (ap (λ (x : Ran). x .next) (v .ran)) (v .places)

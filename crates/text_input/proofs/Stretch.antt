@@ -5,6 +5,7 @@
 --     Keeps, keeps               a stretch of a chunk, by what was found
 --     kept-room, kept-moves      `advance` over such a stretch
 --     turn-room, turn-moves      and over one character
+--     ran-is                     an answer by its parts
 use Prim.Native.Nat.{ℕ, suc, _+_, _-_, _≤_, _<_}
 use mathlib.Core.Bool.{Bool, true, false, true≢false}
 use mathlib.Core.List.{List, [], _∷_, append-nil}
@@ -33,8 +34,9 @@ use Rattle.text_input.specs.declared.step.Met.the-variants.{Line, Other}
 use Rattle.text_input.specs.Sets.{optionalLine}
 use Rattle.text_input.specs.declared.step.Step.{Step}
 use Rattle.text_input.specs.Step.{scanStepOf, outChars, leaveOf, meetOf, madeOf, lastOf}
-use Rattle.text_input.specs.Scan.{outs, ends}
-use Rattle.text_input.specs.Inner.{grounded, steady, passedBy, Moves}
+use Rattle.text_input.specs.declared.Ran.{Ran}
+use Rattle.text_input.specs.Scan.{Effect, stepEffect, runOf, outs, ends}
+use Rattle.text_input.specs.Inner.{grounded, steady, passedBy, ranBy, Moves}
 use Rattle.text_input.proofs.Chunks.{outs-append}
 
 -- ---- one character
@@ -143,6 +145,10 @@ module _ (p : List ℕ) (o : Options) (r : TextInput) (chunk : List ℕ) (i j : 
       keeps-ends p o (part i j chunk) (j - i - 1) r (omega (arith, n)) (k .ready) each
       ∙ ap (passedBy r) (part-at chunk i j (omega (arith, k .more)) (j - i - 1) (omega arith) ∙ ap (λ x. getD chunk x 0) e)
 
+-- equal parts make equal answers
+pub ran-is : {m n : ℕ} {x y : TextInput} → m ≡ n → x ≡ y → _≡_ {A = Ran} (record { written = m; next = x }) (record { written = n; next = y })
+ran-is h g = λ i. record { written = h i; next = g i }
+
 -- ---- one turn of `advance`: a stretch that is kept, or one character
 module _ (p : List ℕ) (o : Options) (r : TextInput) (chunk : List ℕ) (i : ℕ) (queue : List ℕ) (k : ℕ) where
   abbrev Room : Type 0
@@ -161,11 +167,11 @@ module _ (p : List ℕ) (o : Options) (r : TextInput) (chunk : List ℕ) (i : �
         Moves p o r chunk i queue k (record { at = j; written = k + (j - i); next = next; gap = gap }) after
     kept-moves gap ps next e after a =
         let q = kept-outs p o r chunk i j v in
+        let n = part-length chunk i j (omega (arith, v .more)) (v .low) in
         record {
           on = v .more;
           low = v .low;
-          written = rw q (ap (λ n. k + n) (sym (part-length chunk i j (omega (arith, v .more)) (v .low))));
-          next = e ∙ sym (kept-ends p o r chunk i j v);
+          ran = ran-is (omega (arith, n, ap length q)) (e ∙ sym (kept-ends p o r chunk i j v));
           places = rw q a;
           gap = ps;
         }
@@ -174,8 +180,8 @@ module _ (p : List ℕ) (o : Options) (r : TextInput) (chunk : List ℕ) (i : �
     abbrev step : Step
     step = scanStepOf p o r (getD chunk i 0)
 
-    one-outs : outs p o r (part i (i + 1) chunk) ≡ outChars step
-    one-outs = rw (part-one chunk i here, append-nil)
+    one-run : runOf p o r (part i (i + 1) chunk) ≡ stepEffect step
+    one-run = rw (part-one chunk i here, append-nil)
 
     pub turn-room : Room → k + length (outChars step) ≤ length queue
     turn-room room =
@@ -183,15 +189,13 @@ module _ (p : List ℕ) (o : Options) (r : TextInput) (chunk : List ℕ) (i : �
         let n = ap length e ∙ length-append (outChars step) (outs p o (step .next) (drop (suc i) chunk)) in
         omega (arith, n)
 
-    pub turn-moves : (gap : Range) → Gap gap → (w : ℕ) → w ≡ k + length (outChars step) → (next : TextInput) → next ≡ step .next →
-        (after : List ℕ) → after ≡ sets queue k (outChars step) →
-        Moves p o r chunk i queue k (record { at = i + 1; written = w; next = next; gap = gap }) after
-    turn-moves gap ps w f next e after a =
+    pub turn-moves : (gap : Range) → Gap gap → (t : Ran) → t ≡ ranBy k (stepEffect step) → (after : List ℕ) → after ≡ sets queue k (outChars step) →
+        Moves p o r chunk i queue k (record { at = i + 1; written = t .written; next = t .next; gap = gap }) after
+    turn-moves gap ps t e after a =
         record {
           on = omega arith;
           low = omega arith;
-          written = rw one-outs f;
-          next = rw (part-one chunk i here) e;
-          places = rw one-outs a;
+          ran = e ∙ ap (ranBy k) (sym one-run);
+          places = a ∙ ap (λ (x : Effect). sets queue k (x .out)) (sym one-run);
           gap = ps;
         }

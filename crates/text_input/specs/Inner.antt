@@ -1,4 +1,4 @@
--- What the private functions of src/lib.rt that go by stretches answer. No entry's contract cites this file.
+-- What the inner functions of src/lib.rt answer that take a run, a step or a stretch of it. No entry's contract cites this file.
 use Prim.Native.Nat.{ℕ, _+_, _≤_, _<_}
 use mathlib.Core.Bool.{Bool, true, false, not, _&&_}
 use mathlib.Core.List.{List}
@@ -13,7 +13,8 @@ use Rattle.text_input.specs.declared.State.the-variants.{Ground, Cr, Ff,
 use Rattle.text_input.specs.declared.Options.{Options}
 use Rattle.text_input.specs.declared.TextInput.{TextInput}
 use Rattle.text_input.specs.declared.Moved.{Moved}
-use Rattle.text_input.specs.Scan.{outs, ends}
+use Rattle.text_input.specs.declared.Ran.{Ran}
+use Rattle.text_input.specs.Scan.{Effect, runOf, outs}
 
 -- nothing is pending
 abbrev pub grounded : State → Bool
@@ -35,11 +36,17 @@ abbrev pub passedBy : TextInput → ℕ → TextInput
 passedBy r c =
     record { state = Ground (eqb c 0x0A); «expect_starter» = false; «at_start» = r .«at_start»; last = c; count = r .count }
 
+-- how far the queue is written, and the record, where what a run comes to is stored from place k on
+abbrev pub ranBy : ℕ → Effect → Ran
+ranBy k e = record { written = k + length (e .out); next = e .next }
+
+abbrev pub ranIn : Moved → Ran
+ranIn m = record { written = m .written; next = m .next }
+
 -- the chunk is taken from place i up to a later one, and what its characters come to is stored from place k on
 pub record Moves (p : List ℕ) (o : Options) (r : TextInput) (chunk : List ℕ) (i : ℕ) (queue : List ℕ) (k : ℕ) (m : Moved) (after : List ℕ) : Type 0 where
   pub on : i < m .at
   pub low : m .at ≤ length chunk
-  pub written : m .written ≡ k + length (outs p o r (part i (m .at) chunk))
-  pub next : m .next ≡ ends p o r (part i (m .at) chunk)
+  pub ran : ranIn m ≡ ranBy k (runOf p o r (part i (m .at) chunk))
   pub places : after ≡ sets queue k (outs p o r (part i (m .at) chunk))
   pub gap : Gap (m .gap)

@@ -36,8 +36,8 @@ ghost use lib.Seq.{sets};
 ghost use Rattle.page.specs.Page.{accepted};
 ghost use Rattle.stretch.specs.Plain.{Gap};
 ghost use Rattle.text_input.specs.Step.{scanStepOf, outChars};
-ghost use Rattle.text_input.specs.Scan.{fresh, outs, ends, maxCount, chunkRefusal, roomRefusal, placesForChunk, refusalOf, skipped, opened, outcome, scanOf, pendingOf, afterLine, endMarkOf, newlineOf, finishOf};
-ghost use Rattle.text_input.specs.Inner.{grounded, steady, passedBy, Moves};
+ghost use Rattle.text_input.specs.Scan.{fresh, stepEffect, runOf, outs, maxCount, chunkRefusal, roomRefusal, placesForChunk, refusalOf, skipped, opened, outcome, scanOf, pendingOf, afterLine, endMarkOf, newlineOf, finishOf};
+ghost use Rattle.text_input.specs.Inner.{grounded, steady, passedBy, ranBy, Moves};
 
 // What the characters so far leave open. `Ground`: nothing; its flag is true after a newline, and before the first character.
 pub enum State {
@@ -121,8 +121,7 @@ impl TextInput {
     fn turn(self, page: &[u32], options: Options, c: u32, queue: &mut [u32], at: usize) -> Ran
         requires { ⌜ accepted (now page) ≡ true ⌝ }
         requires { ⌜ at + length (outChars (scanStepOf (now page) options self c)) ≤ length (now queue) ⌝ }
-        ensures written { λ r. ⌜ r .written ≡ at + length (outChars (scanStepOf (now (page .entry)) options self c)) ⌝ }
-        ensures next { λ r. ⌜ r .next ≡ scanStepOf (now (page .entry)) options self c .next ⌝ }
+        ensures ran { λ r. ⌜ r ≡ ranBy at (stepEffect (scanStepOf (now (page .entry)) options self c)) ⌝ }
         ensures places { λ r. ⌜ now (queue .exit) ≡ sets (now (queue .entry)) at (outChars (scanStepOf (now (page .entry)) options self c)) ⌝ }
     {
         let step = self.step(page, options, c);
@@ -199,8 +198,7 @@ impl TextInput {
     pub fn run(self, page: &[u32], options: Options, chunk: &[u32], queue: &mut [u32]) -> Ran
         requires { ⌜ accepted (now page) ≡ true ⌝ }
         requires { ⌜ length (outs (now page) options self (now chunk)) ≤ length (now queue) ⌝ }
-        ensures written { λ r. ⌜ r .written ≡ length (outs (now (page .entry)) options self (now (chunk .entry))) ⌝ }
-        ensures next { λ r. ⌜ r .next ≡ ends (now (page .entry)) options self (now (chunk .entry)) ⌝ }
+        ensures ran { λ r. ⌜ r ≡ ranBy 0 (runOf (now (page .entry)) options self (now (chunk .entry))) ⌝ }
         ensures places { λ r. ⌜ now (queue .exit) ≡ sets (now (queue .entry)) 0 (outs (now (page .entry)) options self (now (chunk .entry))) ⌝ }
     {
         let mut r = self;

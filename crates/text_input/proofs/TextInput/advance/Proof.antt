@@ -64,7 +64,7 @@ returns-2 c =
     let u = c .before .before .before .before in
     let a = Entry (u .before .before .before) in
     let t = u .turn .ensures in
-    turn-moves _ _ _ _ _ _ _ (a .pre .1 .0) _ (c .next-gap .ensures) _ (t .0) _ (t .1 .0) _ (t .1 .1)
+    turn-moves _ _ _ _ _ _ _ (a .pre .1 .0) _ (c .next-gap .ensures) _ (t .0) _ (t .1)
 
 pub advance-spec : {M : Type 1} → statement M
 advance-spec =

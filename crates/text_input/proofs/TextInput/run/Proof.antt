@@ -1,26 +1,31 @@
--- `run` meets its contract, by the loop of Loop.antt.
+-- `run` meets its contract, by the loop of Loop.antt. The measure is what is left of the chunk.
 use Prim.Native.Nat.{_-_}
 use native.Mathlib.Omega.{arith}
 use lib.ListN.{length}
 use borrow.Author.Needs.{needs}
-use Rattle.text_input.proofs.Loop.{Going, begin, ended, left, again}
+use Rattle.stretch.specs.Plain.{Gap}
+use Rattle.stretch.proofs.Way.{inPlaces, Going, begin}
+use Rattle.text_input.proofs.Loop.{scanWay, left, moved, ran}
 use Rattle.text_input.proofs.TextInput.run.Statement.{statement}
 use Rattle.text_input.proofs.TextInput.run.Tie as tie
 
 abbrev Inv-loop : tie.InvT-loop
-Inv-loop p o chunk queue₀ r₀ gap₀ k₀ i₀ queue r gap k i = Going p o chunk queue₀ r₀ queue r gap k i
+Inv-loop p o chunk queue₀ r₀ gap₀ k₀ i₀ queue r gap k i = Going (scanWay inPlaces p o) chunk 0 queue₀ r₀ queue r k i × Gap gap
 
 abbrev μ-loop : tie.MeasureT-loop
 μ-loop p o chunk queue₀ r₀ gap₀ k₀ i₀ queue r gap k i = length chunk - i
 
+abbrev start : tie.At-loop Inv-loop μ-loop → tie.Start Inv-loop μ-loop
+start c = c .before .before .before .before .before
+
 loop-holds : tie.Need-loop-holds Inv-loop μ-loop
-loop-holds c = begin _ _ _ _ _ _ (c .first-gap .ensures) (c .before .before .before .before .pre .1)
+loop-holds c = (begin _ _ _ _ _ (omega arith), c .first-gap .ensures)
 
 advance-requires : tie.Need-advance-requires Inv-loop μ-loop
 advance-requires c κs =
-    let a = c .before .before .before .before .before .before .before .pre in
-    let g = c .before .before .loop .inv in
-    (a .0, (c .before .loop-test .taken, (g .plain, left _ _ _ _ _ _ _ _ _ _ g (a .1))))
+    let l = c .before .before in
+    let a = start l .pre in
+    (a .0, (c .before .loop-test .taken, (l .loop .inv .1, left _ _ _ _ _ _ _ _ _ (l .loop .inv .0) (a .1))))
 
 loop-less : tie.Need-loop-less Inv-loop μ-loop
 loop-less c =
@@ -29,8 +34,9 @@ loop-less c =
 
 loop-again : tie.Need-loop-again Inv-loop μ-loop
 loop-again c =
-    let g = c .before .before .before .before .before .before .before .loop .inv in
-    again _ _ _ _ _ _ _ _ _ _ g _ _ (c .before .before .before .before .advance .ensures)
+    let a = c .before .before .before .before in
+    let v = a .advance .ensures in
+    (moved _ _ _ _ _ _ _ _ _ (a .before .before .before .loop .inv .0) _ _ v, v .gap)
 
 pub run-spec : {M : Type 1} → statement M
 run-spec =
@@ -43,5 +49,5 @@ run-spec =
     advance-requires
     loop-less
     loop-again
-    (λ c. c .before .loop .inv .same)
-    (λ c. ended _ _ _ _ _ _ _ _ _ _ (c .before .loop .inv) (c .loop-test .left)))
+    (λ c. c .before .loop .inv .0 .same)
+    (λ c. ran _ _ _ _ _ _ _ _ _ _ _ (c .before .loop .inv .0) (c .loop-test .left)))
