@@ -3,6 +3,7 @@
 --     keep-step                    one assigned character, where nothing is owed
 --     keeps-gives, keeps-leads     a run of them
 --     isolated-append              a run in two parts
+--     leads-append                 and the record after it
 --     kept-room, kept-moves        `advance` over a stretch
 --     turn-room, turn-moves        and over one character
 use Prim.Native.Nat.{ℕ, suc, _+_, _-_, _≤_, _<_}
@@ -57,6 +58,10 @@ module _ (p : List ℕ) where
   pub isolated-append : (xs ys : List ℕ) (r : IsolateUnassigned) → isolatedFrom p r (xs ++ ys) ≡ gives p r xs ++ isolatedFrom p (leads p r xs) ys
   isolated-append [] ys r = refl
   isolated-append (c ∷ xs) ys r = simp (isolated-append xs ys (after (isolateStepOf p r c)), append-assoc)
+
+  pub leads-append : (xs ys : List ℕ) (r : IsolateUnassigned) → leads p r (xs ++ ys) ≡ leads p (leads p r xs) ys
+  leads-append [] ys r = refl
+  leads-append (c ∷ xs) ys r = leads-append xs ys (after (isolateStepOf p r c))
 
 -- ---- `advance`: a stretch that is kept, or one character
 module _ (p : List ℕ) (r : IsolateUnassigned) (cs : List ℕ) (i : ℕ) (out : List ℕ) (k : ℕ) where
