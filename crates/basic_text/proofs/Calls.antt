@@ -1,9 +1,9 @@
 -- What a call answers and leaves, from what the numbers' call does (text_input, proofs/Calls.antt). Idea: the numbers stored in the
 -- first places of the queue are their bytes stored there.
---     scan-refused                       a scan that is refused
+--     AskedBytes, asked                  a scan that is asked for, on bytes and on their numbers
+--     scan-refused                       where it is refused
+--     few, room, scan-accepted           where it is accepted: the count stays within its limit, what is appended has room, and the answer
 --     finish-refused, finished           a finish that is refused, and one that is not: what its two places hold, and the answer
---     few, inside, room, scan-accepted   an accepted scan: the count stays within its limit, the chunk has what is skipped, what is
---                                        appended has room, and the answer
 use mathlib.Core.Path.{_≡_, refl, sym, ap, _∙_}
 use mathlib.Core.Bool.{Bool, true}
 use mathlib.Core.List.{List, [], _∷_}
@@ -19,9 +19,11 @@ use Rattle.common.specs.Answers.{writtenNumbers}
 use Rattle.text_input.specs.declared.Options.{Options}
 use Rattle.text_input.specs.declared.TextInput.{TextInput}
 use Rattle.text_input.specs.declared.Scanned.{Scanned}
-use Rattle.text_input.specs.Scan.{Outcome, outs, ends, maxCount, placesForChunk, refusalOf, scanRefusal, skipped, opened, outcome, scanOf, finishChars, finishNext, finishOf}
-use Rattle.common.proofs.Lists.{rest-is}
+use Rattle.text_input.specs.declared.Ran.{Ran}
+use Rattle.text_input.specs.Inner.{ranBy}
+use Rattle.text_input.specs.Scan.{Outcome, runOf, outs, maxCount, placesForChunk, refusalOf, skipped, opened, outcome, finishChars, finishNext, finishOf}
 use Rattle.text_input.proofs.Room.{finish-room}
+use Rattle.text_input.proofs.Calls.{Asked, whole, refused-is, counts, enough, accepted-is}
 use Rattle.text_input.proofs.Calls as calls
 use Rattle.basic_text.specs.Exports.{numbersOf, bytesOf}
 use Rattle.basic_text.proofs.Laws.{Bytes, length-numbers, length-bytes, with-all, with-filled}
@@ -50,51 +52,55 @@ first-filled queue out q s whole k room e w = (
 )
 
 -- ---- a scan
--- the refusal's number n, 0 where there is none
-module _ (r : TextInput) (p : List ℕ) (o : Options) (chunk queue : List ℕ) (n : ℕ)
-    (e : n ≡ refusalOf (r .count) (accepted p) (areChars (numbersOf chunk)) (length chunk / 4) (placesForChunk (length chunk / 4)) (length queue / 4)) where
-  abbrev whole : Outcome
-  whole = scanOf r p o (numbersOf chunk) (numbersOf queue)
+-- one that is asked for, on bytes, and the number of its refusal
+pub record AskedBytes : Type 0 where
+  pub r : TextInput
+  pub page : List ℕ
+  pub options : Options
+  pub chunk : List ℕ
+  pub queue : List ℕ
+  pub bytes : Bytes queue
+  pub no : ℕ
+  pub is : no ≡ refusalOf (r .count) (accepted page) (areChars (numbersOf chunk)) (length chunk / 4) (placesForChunk (length chunk / 4)) (length queue / 4)
 
-  asked : n ≡ scanRefusal (r .count) p (numbersOf chunk) (length (numbersOf queue))
-  asked = rw (length-numbers chunk, length-numbers queue) e
+-- the same on their numbers
+abbrev pub asked : AskedBytes → Asked
+asked a =
+    record {
+      r = a .r;
+      page = a .page;
+      options = a .options;
+      chunk = numbersOf (a .chunk);
+      queue = numbersOf (a .queue);
+      no = a .no;
+      is = rw (length-numbers (a .chunk), length-numbers (a .queue)) (a .is);
+    }
 
-  pub scan-refused : Bytes queue → (n ≡ 0 → ⊥) → Answers queue whole (record { answer = Refused n; next = r }) queue
-  scan-refused k h =
-      left-as-it-was queue (record { answer = Refused n; next = r }) whole k
-      (calls.refused-is r p o (numbersOf chunk) (numbersOf queue) n asked h)
+module _ (a : AskedBytes) where
+  pub scan-refused : (a .no ≡ 0 → ⊥) → Answers (a .queue) (whole (asked a)) (record { answer = Refused (a .no); next = a .r }) (a .queue)
+  scan-refused h =
+      left-as-it-was (a .queue) (record { answer = Refused (a .no); next = a .r }) (whole (asked a)) (a .bytes) (refused-is (asked a) h)
 
-  module _ (z : n ≡ 0) where
-    pub right-page : accepted p ≡ true
-    right-page = calls.right-page r p o (numbersOf chunk) (numbersOf queue) n asked z
+  module _ (z : a .no ≡ 0) where
+    pub few : a .r .count + length (a .chunk) / 4 ≤ maxCount
+    few = rw length-numbers at (counts (asked a) z)
 
-    pub few : r .count + length chunk / 4 ≤ maxCount
-    few = rw length-numbers at (calls.counts r p o (numbersOf chunk) (numbersOf queue) n asked z)
+    module _ (from : ℕ) (f : from ≡ skipped (a .r) (numbersOf (a .chunk))) (first : TextInput)
+        (g : first ≡ opened (a .r) (length (a .chunk) / 4)) where
+      same : first ≡ opened (a .r) (length (numbersOf (a .chunk)))
+      same = rw length-numbers g
 
-    module _ (from : ℕ) (f : from ≡ skipped r (numbersOf chunk)) where
-      pub inside : from ≤ length (numbersOf chunk)
-      inside = calls.from-le r p o (numbersOf chunk) (numbersOf queue) n asked z from f
+      pub room : 4 * length (outs (a .page) (a .options) first (drop from (numbersOf (a .chunk)))) ≤ length (a .queue)
+      room = omega (arith, enough (asked a) z from f first same, length-numbers (a .queue))
 
-      module _ (first : TextInput) (g : first ≡ opened r (length chunk / 4)) where
-        same : first ≡ opened r (length (numbersOf chunk))
-        same = rw length-numbers g
-
-        pub room : 4 * length (outs p o first (drop from (numbersOf chunk))) ≤ length queue
-        room =
-            let w = calls.enough r p o (numbersOf chunk) (numbersOf queue) n asked z from f first same in
-            omega (arith, rw rest-is at w, length-numbers queue)
-
-        pub scan-accepted : Bytes queue → (k : ℕ) (next : TextInput) (q : List ℕ) →
-            (k ≡ length (outs p o first (drop from (numbersOf chunk))))
-            × ((next ≡ ends p o first (drop from (numbersOf chunk)))
-            × (q ≡ sets queue 0 (bytesOf (outs p o first (drop from (numbersOf chunk))))))
-            → Answers queue whole (record { answer = Written k; next = next }) q
-        scan-accepted b k next q h =
-            let out = outs p o first (drop from (numbersOf chunk)) in
-            let w =
-            calls.accepted-is r p o (numbersOf chunk) (numbersOf queue) n asked z from f first same k next (sets (numbersOf queue) 0 out)
-            (rw rest-is (h .0, (h .1 .0, refl))) in
-            first-filled queue out q (record { answer = Written k; next = next }) whole b room (h .1 .1) w
+      pub scan-accepted : (ran : Ran) (q : List ℕ) →
+          (ran ≡ ranBy 0 (runOf (a .page) (a .options) first (drop from (numbersOf (a .chunk)))))
+          × (q ≡ sets (a .queue) 0 (bytesOf (outs (a .page) (a .options) first (drop from (numbersOf (a .chunk))))))
+          → Answers (a .queue) (whole (asked a)) (record { answer = Written (ran .written); next = ran .next }) q
+      scan-accepted ran q h =
+          let out = outs (a .page) (a .options) first (drop from (numbersOf (a .chunk))) in
+          first-filled (a .queue) out q (record { answer = Written (ran .written); next = ran .next }) (whole (asked a)) (a .bytes) room (h .1)
+          (accepted-is (asked a) z from f first same ran (sets (numbersOf (a .queue)) 0 out) (h .0, refl))
 
 -- ---- a finish
 module _ (r : TextInput) (eof : Bool) (queue : List ℕ) where

@@ -13,7 +13,8 @@ ghost use Prim.Native.Nat.{_+_, _*_, _≤_, _<_};
 ghost use lib.ListN.{length, drop};
 ghost use lib.Seq.{sets};
 ghost use Rattle.page.specs.Page.{accepted};
-ghost use Rattle.text_input.specs.Scan.{outs, ends, skipped};
+ghost use Rattle.text_input.specs.Scan.{runOf, outs, skipped};
+ghost use Rattle.text_input.specs.Inner.{ranBy};
 ghost use Rattle.basic_text.specs.Exports.{numbersOf, bytesOf};
 
 // How many characters of the chunk are dropped: a leading FEFF, where no scan was accepted before. Total.
@@ -54,8 +55,7 @@ fn piece(
     requires numbers { ⌜ length (numbersOf (now bytes)) ≤ length (now numbers) ⌝ }
     requires places { ⌜ 3 * length (numbersOf (now bytes)) + 1 ≤ length (now places) ⌝ }
     requires room { ⌜ 4 * (k + length (outs (now page) options r (numbersOf (now bytes)))) ≤ length (now queue) ⌝ }
-    ensures written { λ ran. ⌜ ran .written ≡ k + length (outs (now (page .entry)) options r (numbersOf (now (bytes .entry)))) ⌝ }
-    ensures next { λ ran. ⌜ ran .next ≡ ends (now (page .entry)) options r (numbersOf (now (bytes .entry))) ⌝ }
+    ensures ran { λ ran. ⌜ ran ≡ ranBy k (runOf (now (page .entry)) options r (numbersOf (now (bytes .entry)))) ⌝ }
     ensures stored { λ ran. ⌜
         now (queue .exit) ≡ sets (now (queue .entry)) (4 * k) (bytesOf (outs (now (page .entry)) options r (numbersOf (now (bytes .entry)))))
         ⌝ }
@@ -85,8 +85,7 @@ pub fn run(
     requires { ⌜ accepted (now page) ≡ true ⌝ }
     requires { ⌜ from ≤ length (numbersOf (now chunk)) ⌝ }
     requires { ⌜ 4 * length (outs (now page) options first (drop from (numbersOf (now chunk)))) ≤ length (now queue) ⌝ }
-    ensures written { λ ran. ⌜ ran .written ≡ length (outs (now (page .entry)) options first (drop from (numbersOf (now (chunk .entry))))) ⌝ }
-    ensures next { λ ran. ⌜ ran .next ≡ ends (now (page .entry)) options first (drop from (numbersOf (now (chunk .entry)))) ⌝ }
+    ensures ran { λ ran. ⌜ ran ≡ ranBy 0 (runOf (now (page .entry)) options first (drop from (numbersOf (now (chunk .entry))))) ⌝ }
     ensures places { λ ran. ⌜ now (queue .exit) ≡ sets (now (queue .entry)) 0 (bytesOf (outs (now (page .entry)) options first (drop from (numbersOf (now (chunk .entry)))))) ⌝ }
 {
     let mut numbers = [0u32; 256];

@@ -3,13 +3,16 @@
 use Prim.Native.Nat.{ℕ, _-_, _*_, _/_, _≤_}
 use mathlib.Core.Path.{_≡_, sym, ap, _∙_}
 use mathlib.Core.List.{List}
-use native.Mathlib.Nat.{sub-zero}
+use native.Mathlib.Nat.{zero-add, sub-zero}
 use native.Mathlib.Omega.{arith}
 use borrow.Author.Needs.{needs}
 use lib.ListN.{length, take, drop}
 use lib.Seq.{sets}
-use Rattle.text_input.specs.Scan.{outs, ends}
+use Rattle.text_input.specs.declared.Ran.{Ran}
+use Rattle.text_input.specs.Scan.{runOf, outs}
+use Rattle.text_input.specs.Inner.{ranBy}
 use Rattle.text_input.proofs.Room.{room}
+use Rattle.text_input.proofs.Stretch.{ran-is}
 use Rattle.basic_text.specs.Exports.{numbersOf, bytesOf}
 use Rattle.basic_text.proofs.Laws.{length-numbers}
 use Rattle.basic_text.proofs.Stores.{stored-first}
@@ -52,43 +55,43 @@ Read c = c .before .before .before .before .before .before
 -- the run of the piece
 ran : (c : tie.After-run) →
     let s = Entry (Read c) in
-    (c .run .result .written ≡ length (out s))
-    × ((c .run .result .next ≡ ends (s .args .page .now) (s .args .options) (s .args .r) (chars s))
-    × (c .run .last .1 .1 .1 .1 .0 ≡ sets (s .args .places .now) 0 (out s)))
+    (c .run .result ≡ ranBy 0 (runOf (s .args .page .now) (s .args .options) (s .args .r) (chars s)))
+    × (c .run .last .1 .1 .1 .1 .0 ≡ sets (s .args .places .now) 0 (out s))
 ran c = rw (read (Read c) .1) at (c .run .ensures)
 
--- the first places hold what it appends
+-- how many characters it appends
+many : (c : tie.After-run) → c .run .result .written ≡ length (out (Entry (Read c)))
+many c = ap (λ (x : Ran). x .written) (ran c .0) ∙ zero-add _
+
+-- the first places hold them
 held : (c : tie.After-run) →
     (c .run .result .written ≤ length (c .run .last .1 .1 .1 .1 .0))
     × (take (c .run .result .written) (c .run .last .1 .1 .1 .1 .0) ≡ out (Entry (Read c)))
 held c =
     let s = Entry (Read c) in
-    stored-first (out s) (s .args .places .now) _ _ (ran c .0)
-    (omega (arith, room (s .args .page .now) (s .args .options) (s .args .r) (chars s), s .pre .1 .1 .0)) (ran c .1 .1)
+    stored-first (out s) (s .args .places .now) _ _ (many c)
+    (omega (arith, room (s .args .page .now) (s .args .options) (s .args .r) (chars s), s .pre .1 .1 .0)) (ran c .1)
 
 write-numbers-requires : tie.Need-write-numbers-requires
 write-numbers-requires c κs =
     let d = c .before .before .before .before in
-    (held d .0, omega (arith, ran d .0, Entry (Read d) .pre .1 .1 .1))
+    (held d .0, omega (arith, many d, Entry (Read d) .pre .1 .1 .1))
 
-abbrev Ran : tie.After-next → tie.After-run
-Ran c = c .before .before .before .before .before .before .before .before
+abbrev Done : tie.After-next → tie.After-run
+Done c = c .before .before .before .before .before .before .before .before
 
 add-t16 : tie.Need-add-t16
 add-t16 c =
-    let s = Entry (Read (Ran c)) in
-    omega (arith, ran (Ran c) .0, s .pre .1 .1 .1, s .good)
+    let s = Entry (Read (Done c)) in
+    omega (arith, many (Done c), s .pre .1 .1 .1, s .good)
 
 returns : tie.Need-returns
 returns c =
-    let d = Ran c in
+    let d = Done c in
     let a = Entry (Read d) .args in (
-      omega (arith, ran d .0),
-      (
-        ran d .1 .0,
-        c .before .before .before .write-numbers .ensures
-            ∙ ap (λ (l : List ℕ). sets (a .queue .now) (4 * a .k) (bytesOf l)) (held d .1),
-      ),
+      ran-is (omega (arith, many d)) (ap (λ (x : Ran). x .next) (ran d .0)),
+      c .before .before .before .write-numbers .ensures
+          ∙ ap (λ (l : List ℕ). sets (a .queue .now) (4 * a .k) (bytesOf l)) (held d .1),
     )
 
 pub piece-spec : {M : Type 1} → statement M

@@ -8,13 +8,15 @@ use native.Mathlib.Omega.{arith}
 use lib.ListN.{length, take, drop}
 use Rattle.basic_text.specs.Exports.{numbersOf}
 use Rattle.basic_text.proofs.Laws.{length-numbers, numbers-cut}
-use Rattle.basic_text.proofs.Loop.{Going, begin, few, fits, again, ended}
+use Rattle.stretch.proofs.Way.{Going, begin}
+use Rattle.text_input.proofs.Loop.{scanWay, ran}
+use Rattle.basic_text.proofs.Loop.{asBytes, few, fits, taken}
 use Rattle.basic_text.proofs.run.run.Statement.{statement}
 use Rattle.basic_text.proofs.run.run.Tie as tie
 
 abbrev Inv-loop : tie.InvT-loop
 Inv-loop page options chunk from queue₀ numbers₀ places₀ r₀ k₀ i₀ queue numbers places r k i =
-    Going page options (numbersOf chunk) from queue₀ r₀ queue r k i × ((length numbers ≡ 256) × (length places ≡ 769))
+    Going (scanWay asBytes page options) (numbersOf chunk) from queue₀ r₀ queue r k i × ((length numbers ≡ 256) × (length places ≡ 769))
 
 abbrev μ-loop : tie.MeasureT-loop
 μ-loop page options chunk from queue₀ numbers₀ places₀ r₀ k₀ i₀ queue numbers places r k i = length (numbersOf chunk) - i
@@ -44,19 +46,19 @@ module _ (c : tie.After-piece-end Inv-loop μ-loop) where
   next = numbers-cut chunk (at .loop .i) end (omega (arith, inside))
 
 loop-holds : tie.Need-loop-holds Inv-loop μ-loop
-loop-holds c = let p = c .before .before .before .pre in (begin _ _ _ _ _ _ (p .1 .0) (p .1 .1), (refl, refl))
+loop-holds c = (begin _ _ _ _ _ (c .before .before .before .pre .1 .0), (refl, refl))
 
 piece-requires : tie.Need-piece-requires Inv-loop μ-loop
 piece-requires c κs =
     let d = c .before .before .before .before in
     let l = at d .loop in
-    let n = few _ _ _ _ _ _ _ _ _ _ (l .inv .0) _ (chars d) (inside d .1 .0) (next d) in (
+    let n = few _ _ _ _ _ _ _ _ _ _ (l .inv .0) (chars d) _ (next d) (inside d .1 .0) in (
       entry d .pre .0,
       (
         omega (arith, n, d .piece-end .ensures, l .inv .1 .0),
         (
           omega (arith, n, d .piece-end .ensures, l .inv .1 .1),
-          fits _ _ _ _ _ _ _ _ _ _ (l .inv .0) _ (chars d) (inside d .1 .0) (next d),
+          fits _ _ _ _ _ _ _ _ _ _ (l .inv .0) (chars d) (end d) (next d) (entry d .pre .1 .1),
         ),
       ),
     )
@@ -66,15 +68,16 @@ loop-again c =
     let p = c .before .before .before .before .before in
     let d = p .before .before .before .before .before in
     let l = at d .loop in (
-      again _ _ _ _ _ _ _ _ _ _ (l .inv .0) _ (chars d) (inside d .1 .0) (next d) _ _ _ (p .piece .ensures),
+      taken _ _ _ _ _ _ _ _ _ _ (l .inv .0) (chars d) _ (next d) (inside d .1 .0) _ _ (p .piece .ensures),
       (omega (arith, l .inv .1 .0), omega (arith, l .inv .1 .1)),
     )
 
 returns : tie.Need-returns Inv-loop μ-loop
 returns c =
-    let chunk = c .before .before .before .before .before .args .chunk .now in
-    let past : length (numbersOf chunk) ≤ c .before .loop .i = omega (arith, length-numbers chunk, c .loop-test .left) in
-    ended _ _ _ _ _ _ _ _ _ _ (c .before .loop .inv .0) past
+    let l = c .before in
+    let chunk = l .before .before .before .before .args .chunk .now in
+    let past : length (numbersOf chunk) ≤ l .loop .i = omega (arith, length-numbers chunk, c .loop-test .left) in
+    ran _ _ _ _ _ _ _ _ _ _ _ (l .loop .inv .0) past
 
 pub run-spec : {M : Type 1} → statement M
 run-spec =
