@@ -20,8 +20,8 @@ use Rattle.text_input.specs.declared.Options.{Options}
 use Rattle.text_input.specs.declared.TextInput.{TextInput}
 use Rattle.text_input.specs.declared.Scanned.{Scanned}
 use Rattle.text_input.specs.declared.Ran.{Ran}
-use Rattle.text_input.specs.Inner.{ranBy}
-use Rattle.text_input.specs.Scan.{Outcome, runOf, outs, maxCount, placesForChunk, refusalOf, skipped, opened, outcome, finishChars, finishNext, finishOf}
+use Rattle.text_input.specs.Inner.{outs, ranBy}
+use Rattle.text_input.specs.Scan.{Outcome, runOf, maxCount, placesForChunk, refusalOf, skipped, opened, outcome, finishChars, finishNext, finishOf}
 use Rattle.text_input.proofs.Room.{finish-room}
 use Rattle.text_input.proofs.Calls.{Asked, whole, refused-is, counts, enough, accepted-is}
 use Rattle.text_input.proofs.Calls as calls

@@ -13,8 +13,8 @@ use Rattle.stretch.proofs.Way.{Store, Going, size, again}
 use Rattle.text_input.specs.declared.Options.{Options}
 use Rattle.text_input.specs.declared.TextInput.{TextInput}
 use Rattle.text_input.specs.declared.Ran.{Ran}
-use Rattle.text_input.specs.Scan.{runOf, outs}
-use Rattle.text_input.specs.Inner.{ranBy}
+use Rattle.text_input.specs.Scan.{runOf}
+use Rattle.text_input.specs.Inner.{outs, ranBy}
 use Rattle.text_input.proofs.Loop.{scanWay}
 use Rattle.basic_text.specs.Exports.{bytesOf}
 use Rattle.basic_text.proofs.Stores.{sets-bytes}

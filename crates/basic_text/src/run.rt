@@ -13,8 +13,8 @@ ghost use Prim.Native.Nat.{_+_, _*_, _≤_, _<_};
 ghost use lib.ListN.{length, drop};
 ghost use lib.Seq.{sets};
 ghost use Rattle.page.specs.Page.{accepted};
-ghost use Rattle.text_input.specs.Scan.{runOf, outs, skipped};
-ghost use Rattle.text_input.specs.Inner.{ranBy};
+ghost use Rattle.text_input.specs.Scan.{runOf, skipped};
+ghost use Rattle.text_input.specs.Inner.{outs, ranBy};
 ghost use Rattle.basic_text.specs.Exports.{numbersOf, bytesOf};
 
 // How many characters of the chunk are dropped: a leading FEFF, where no scan was accepted before. Total.

@@ -26,9 +26,9 @@ use Rattle.text_input.specs.declared.Options.{Options}
 use Rattle.text_input.specs.declared.TextInput.{TextInput}
 use Rattle.text_input.specs.declared.step.Lead.{Lead}
 use Rattle.text_input.specs.Step.{leadChars, lastOf}
-use Rattle.text_input.specs.Scan.{runOf, outs, maxCount, placesForChunk, chunkRefusal, roomRefusal, refusalOf, scanRefusal, leadingBom, skipped, opened, Outcome, outcome, refused, scanOf, pendingOf, afterLine, endMarkOf, newlineOf, finishChars, finishNext, finishOf}
+use Rattle.text_input.specs.Scan.{runOf, maxCount, placesForChunk, chunkRefusal, roomRefusal, refusalOf, scanRefusal, leadingBom, skipped, opened, Outcome, outcome, refused, scanOf, pendingOf, afterLine, endMarkOf, newlineOf, finishChars, finishNext, finishOf}
 use Rattle.text_input.specs.declared.Ran.{Ran}
-use Rattle.text_input.specs.Inner.{ranBy}
+use Rattle.text_input.specs.Inner.{outs, ranBy}
 use Rattle.text_input.proofs.Kit.{last-three}
 use Rattle.text_input.proofs.Room.{part-room, ending-room}
 

@@ -3,8 +3,8 @@
 -- from the one before it.
 --     run-append                           a run over joined texts; outs-append, ends-append: the same by its parts
 --     marked, outs-marked, ends-marked     a run does not see `at_start` and the count
---     chunks-spent, chunks-spent-next      chunks on a record that has had a scan
---     chunks-first, chunks-first-next      chunks on one that has not: the first of them loses its U+FEFF
+--     chunks-spent                         chunks on a record that has had a scan
+--     chunks-first                         chunks on one that has not: the first of them loses its U+FEFF
 --     spent-outs, spent-ends, first-ends   the same by runs
 --     count-of                             all characters are counted
 use Prim.Native.Nat.{ℕ, _+_}
@@ -24,7 +24,8 @@ use Rattle.text_input.specs.declared.step.Met.{Met}
 use Rattle.text_input.specs.declared.step.Met.the-variants.{Line, Opens, Other}
 use Rattle.text_input.specs.declared.step.Step.{Step}
 use Rattle.text_input.specs.Step.{metOf, leftOf, leaveOf, meetOf, scanStepOf}
-use Rattle.text_input.specs.Scan.{Effect, stepEffect, joined, runOf, outs, ends, opened, leadingBom, skipped, scanChars, scanNext}
+use Rattle.text_input.specs.Scan.{Effect, stepEffect, joined, runOf, opened, leadingBom, skipped, scanChars, scanNext}
+use Rattle.text_input.specs.Inner.{outs, ends}
 use Rattle.text_input.specs.Streams.{scansChars, scansNext, withoutBom}
 use Rattle.text_input.proofs.Meaning.{ends-start}
 
@@ -160,10 +161,6 @@ module _ (p : List ℕ) (o : Options) where
       scansChars p o r cs ≡ scanChars p o r (flatten cs)
   chunks-spent r h cs = spent-outs r h cs ∙ sym (scan-outs r (flatten cs) (flatten cs) (spent r h (flatten cs)))
 
-  pub chunks-spent-next : (r : TextInput) → r .«at_start» ≡ false → (cs : List (List ℕ)) →
-      scansNext p o r cs ≡ scanNext p o r (flatten cs)
-  chunks-spent-next r h cs = spent-ends r h cs ∙ sym (scan-ends r (flatten cs) (flatten cs) (spent r h (flatten cs)))
-
   -- ---- the chance is there: the first chunk loses its U+FEFF
   pub chunks-first : (r : TextInput) → r .«at_start» ≡ true → (c : List ℕ) (cs : List (List ℕ)) →
       scansChars p o r (c ∷ cs) ≡ outs p o r (withoutBom c ++ flatten cs)
@@ -172,12 +169,6 @@ module _ (p : List ℕ) (o : Options) where
   pub first-ends : (r : TextInput) → r .«at_start» ≡ true → (c : List ℕ) (cs : List (List ℕ)) →
       scansNext p o r (c ∷ cs) ≡ marked (ends p o r (withoutBom c ++ flatten cs)) false (r .count + (length c + length (flatten cs)))
   first-ends r h c cs = then-ends r c (withoutBom c) (unspent r h c) cs (spent-ends (scanNext p o r c) (spent-again r c) cs)
-
-  pub chunks-first-next : (r : TextInput) → r .«at_start» ≡ true → (c : List ℕ) (cs : List (List ℕ)) →
-      scansNext p o r (c ∷ cs) ≡ ends p o (opened r (length c + length (flatten cs))) (withoutBom c ++ flatten cs)
-  chunks-first-next r h c cs =
-      first-ends r h c cs
-      ∙ sym (ends-marked r false (r .count + (length c + length (flatten cs))) (withoutBom c ++ flatten cs))
 
   -- ---- all characters are counted
   pub count-of : (r : TextInput) (cs : List (List ℕ)) → scansNext p o r cs .count ≡ r .count + length (flatten cs)

@@ -32,7 +32,8 @@ use Rattle.text_input.specs.declared.step.Left.the-variants.{Part, Newli
 use Rattle.text_input.specs.declared.step.Met.{Met}
 use Rattle.text_input.specs.declared.step.Met.the-variants.{Line, Opens, Other}
 use Rattle.text_input.specs.Step.{leadChars, imageChars, outChars, firstChar, lastOf, leaveOf, meetOf, guardOf, metOf, leftOf, scanStepOf}
-use Rattle.text_input.specs.Scan.{outs, ends, skipped, opened, scanChars, scanNext, pendingOf, afterLine, endMarkOf, newlineOf, finishChars}
+use Rattle.text_input.specs.Scan.{skipped, opened, scanChars, scanNext, pendingOf, afterLine, endMarkOf, newlineOf, finishChars}
+use Rattle.text_input.specs.Inner.{outs, ends}
 use Rattle.text_input.proofs.Room.{Given, given-pending}
 
 pub other-no-escape : (o : Options) (c : ℕ) → meetOf o c ≡ Other → c ≡ 0x1B → ⊥

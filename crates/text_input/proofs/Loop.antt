@@ -15,8 +15,8 @@ use Rattle.text_input.specs.declared.Options.{Options}
 use Rattle.text_input.specs.declared.TextInput.{TextInput}
 use Rattle.text_input.specs.declared.Moved.{Moved}
 use Rattle.text_input.specs.declared.Ran.{Ran}
-use Rattle.text_input.specs.Scan.{runOf, outs, ends}
-use Rattle.text_input.specs.Inner.{ranBy, Moves}
+use Rattle.text_input.specs.Scan.{runOf}
+use Rattle.text_input.specs.Inner.{outs, ends, ranBy, Moves}
 use Rattle.text_input.proofs.Chunks.{outs-append, ends-append}
 use Rattle.text_input.proofs.Stretch.{ran-is}
 

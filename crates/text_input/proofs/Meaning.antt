@@ -32,7 +32,8 @@ use Rattle.text_input.specs.declared.step.Step.{Step}
 use Rattle.text_input.specs.Sets.{newlineChar, optionalLine}
 use Rattle.text_input.specs.Step.{outChars, leadChars, imageChars, lastOf, guardOf, madeOf, metOf, leftOf, leaveOf, meetOf}
 use Rattle.text_input.specs.Step.{scanStepOf}
-use Rattle.text_input.specs.Scan.{outs, ends, endMarkOf, newlineOf, finishChars, finishNext, afterLine}
+use Rattle.text_input.specs.Scan.{endMarkOf, newlineOf, finishChars, finishNext, afterLine}
+use Rattle.text_input.specs.Inner.{outs, ends}
 use Rattle.text_input.specs.Pieces.{isLine, lineChar, Piece, join, LongestPiece, EachLongest, Reading, pieceImage, image}
 use Rattle.text_input.specs.Pieces.{startMark}
 use Rattle.text_input.specs.Streams.{owedAfter}

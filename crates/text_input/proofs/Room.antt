@@ -5,6 +5,7 @@
 --     room           a run of n characters appends at most 3 × n + 1
 --     run-room       .. and so at most the places for n characters: none for an empty run
 --     part-room      .. and so does the run without its first characters
+--     exact          a run of one character that appends so many
 --     scan-room      an accepted scan appends at most the places for its chunk
 --     ending-room, finish-room   a finish appends at most 2
 use Prim.Native.Nat.{ℕ, zero, suc, _+_, _*_, _≤_}
@@ -31,9 +32,10 @@ use Rattle.text_input.specs.declared.step.Left.the-variants.{Part, Newli
 use Rattle.text_input.specs.declared.step.Met.{Met}
 use Rattle.text_input.specs.declared.step.Met.the-variants.{Line, Opens, Other}
 use Rattle.text_input.specs.declared.step.Step.{Step}
-use Rattle.text_input.specs.Sets.{parameter, final, stringEnd, upTo7F, newlineChar}
+use Rattle.text_input.specs.Sets.{parameter, final, stringEnd, upTo7F, newlineChar, optionalLine}
 use Rattle.text_input.specs.Step.{leadChars, imageChars, outChars, firstChar, lastOf, csiLeave, leaveOf, meetOf, guardOf, metOf, groundOf, leftOf, scanStepOf}
-use Rattle.text_input.specs.Scan.{outs, placesForChunk, skipped, opened, scanChars, pendingOf, afterLine, endMarkOf, newlineOf, finishChars}
+use Rattle.text_input.specs.Scan.{placesForChunk, skipped, opened, scanChars, pendingOf, afterLine, endMarkOf, newlineOf, finishChars}
+use Rattle.text_input.specs.Inner.{outs}
 
 -- ---- what a record owes
 abbrev bit : Bool → ℕ
@@ -165,6 +167,13 @@ pub part-room : (p : List ℕ) (o : Options) (r : TextInput) (n : ℕ) (cs : Lis
     length (outs p o r (drop n cs)) ≤ placesForChunk (length cs)
 part-room p o r n cs =
     omega (arith, run-room p o r (drop n cs), fewer (length (drop n cs)) (length cs) (omega (arith, length-drop n cs)))
+
+-- no fewer would do: "after 0D, the chunk FB03 gives 0A 66 66 69, four places: accepted with 4, refused with 3."
+pub exact : (p : List ℕ) (o : Options) (last count : ℕ) →
+    length (outs p o (record { state = Cr; «expect_starter» = false; «at_start» = false; last = last; count = count }) (0xFB03 ∷ []))
+    ≡ placesForChunk 1
+unfolding scanStepOf leaveOf meetOf optionalLine replaceOf
+exact p o last count = refl
 
 pub scan-room : (p : List ℕ) (o : Options) (r : TextInput) (chunk : List ℕ) →
     length (scanChars p o r chunk) ≤ placesForChunk (length chunk)

@@ -1,6 +1,7 @@
 -- What calls come to, from a fresh record: a whole text, in any chunks and finished once as end of file, gives the cleaned text of
 -- its reading; and a stream of chunks and finishes gives each section's image with what its finish adds. Each section is a run over
 -- the joined chunks (proofs/Chunks.antt), whose meaning is known (proofs/Meaning.antt), and the finish leaves a ground state again.
+--     nothing                     no text gives nothing
 --     whole                       a whole text, in any chunks, finished once as end of file
 --     stream                      a stream from a fresh record
 --     stream-count                the count after a stream
@@ -21,7 +22,8 @@ use Rattle.text_input.specs.declared.Options.{Options}
 use Rattle.text_input.specs.declared.TextInput.{TextInput}
 use Rattle.text_input.specs.declared.step.Lead.the-variants.{Nothing, Char}
 use Rattle.text_input.specs.Step.{leadChars, lastOf}
-use Rattle.text_input.specs.Scan.{fresh, outs, ends, endMarkOf, finishChars, finishNext}
+use Rattle.text_input.specs.Scan.{fresh, endMarkOf, finishChars, finishNext}
+use Rattle.text_input.specs.Inner.{outs, ends}
 use Rattle.text_input.specs.Pieces.{Piece, Reading, isLine, image, endMark, lastNewline, cleaned}
 use Rattle.text_input.specs.Streams.{Section, scansChars, scansNext, streamChars, streamNext, streamText, withoutBom, withoutBomFirst, withoutBomStream}
 use Rattle.text_input.specs.Streams.{Readings, owedAfter, sectionOf, streamOf}
@@ -32,6 +34,10 @@ use Rattle.text_input.proofs.Chunks.{marked, spent-outs, spent-ends, ch
 abbrev pub ready : Bool → Bool → ℕ → ℕ → TextInput
 ready line start last count =
     record { state = Ground line; «expect_starter» = true; «at_start» = start; last = last; count = count }
+
+-- a fresh record owes nothing: case 1, "empty: empty"
+pub nothing : finishChars fresh true ≡ []
+nothing = rw end-newline
 
 -- ---- a section by its pieces, where a start is expected
 section-is : (p : List ℕ) (n : ℕ) (owed : Bool) (xs : List Piece) (eof : Bool) →

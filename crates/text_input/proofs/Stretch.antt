@@ -35,8 +35,8 @@ use Rattle.text_input.specs.Sets.{optionalLine}
 use Rattle.text_input.specs.declared.step.Step.{Step}
 use Rattle.text_input.specs.Step.{scanStepOf, outChars, leaveOf, meetOf, madeOf, lastOf}
 use Rattle.text_input.specs.declared.Ran.{Ran}
-use Rattle.text_input.specs.Scan.{Effect, stepEffect, runOf, outs, ends}
-use Rattle.text_input.specs.Inner.{grounded, steady, passedBy, ranBy, Moves}
+use Rattle.text_input.specs.Scan.{Effect, stepEffect, runOf}
+use Rattle.text_input.specs.Inner.{outs, ends, grounded, steady, passedBy, ranBy, Moves}
 use Rattle.text_input.proofs.Chunks.{outs-append}
 
 -- ---- one character

@@ -1,4 +1,4 @@
--- What the inner functions of src/lib.rt answer that take a run, a step or a stretch of it. No entry's contract cites this file.
+-- What inner functions of src/lib.rt answer, that take a run, a step or a stretch of it. No entry's contract cites this file.
 use Prim.Native.Nat.{ℕ, _+_, _≤_, _<_}
 use mathlib.Core.Bool.{Bool, true, false, not, _&&_}
 use mathlib.Core.List.{List}
@@ -14,7 +14,14 @@ use Rattle.text_input.specs.declared.Options.{Options}
 use Rattle.text_input.specs.declared.TextInput.{TextInput}
 use Rattle.text_input.specs.declared.Moved.{Moved}
 use Rattle.text_input.specs.declared.Ran.{Ran}
-use Rattle.text_input.specs.Scan.{Effect, runOf, outs}
+use Rattle.text_input.specs.Scan.{Effect, runOf}
+
+-- a run by its parts: what it appends, and the record after it
+abbrev pub outs : List ℕ → Options → TextInput → List ℕ → List ℕ
+outs p o r cs = runOf p o r cs .out
+
+abbrev pub ends : List ℕ → Options → TextInput → List ℕ → TextInput
+ends p o r cs = runOf p o r cs .next
 
 -- nothing is pending
 abbrev pub grounded : State → Bool

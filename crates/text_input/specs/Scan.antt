@@ -43,13 +43,6 @@ abbrev pub runOf : List ℕ → Options → TextInput → List ℕ → Effect
 runOf p o r [] = record { out = []; next = r }
 runOf p o r (c ∷ cs) = joined (stepEffect (scanStepOf p o r c)) (runOf p o (scanStepOf p o r c .next) cs)
 
--- the same by its parts
-abbrev pub outs : List ℕ → Options → TextInput → List ℕ → List ℕ
-outs p o r cs = runOf p o r cs .out
-
-abbrev pub ends : List ℕ → Options → TextInput → List ℕ → TextInput
-ends p o r cs = runOf p o r cs .next
-
 -- ---- a call's answer by document 01's numbers, the record after it, and the lent places as it returns
 -- "`VecDeque` and `String`: lent slices and counts."
 pub record Outcome : Type 0 where

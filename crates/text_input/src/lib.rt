@@ -36,8 +36,8 @@ ghost use lib.Seq.{sets};
 ghost use Rattle.page.specs.Page.{accepted};
 ghost use Rattle.stretch.specs.Plain.{Gap};
 ghost use Rattle.text_input.specs.Step.{scanStepOf, outChars};
-ghost use Rattle.text_input.specs.Scan.{fresh, stepEffect, runOf, outs, maxCount, chunkRefusal, roomRefusal, placesForChunk, refusalOf, skipped, opened, outcome, scanOf, pendingOf, afterLine, endMarkOf, newlineOf, finishOf};
-ghost use Rattle.text_input.specs.Inner.{grounded, steady, passedBy, ranBy, Moves};
+ghost use Rattle.text_input.specs.Scan.{fresh, stepEffect, runOf, maxCount, chunkRefusal, roomRefusal, placesForChunk, refusalOf, skipped, opened, outcome, scanOf, pendingOf, afterLine, endMarkOf, newlineOf, finishOf};
+ghost use Rattle.text_input.specs.Inner.{outs, grounded, steady, passedBy, ranBy, Moves};
 
 // What the characters so far leave open. `Ground`: nothing; its flag is true after a newline, and before the first character.
 pub enum State {

@@ -9,8 +9,8 @@ use borrow.Author.Needs.{needs}
 use lib.ListN.{length, take, drop}
 use lib.Seq.{sets}
 use Rattle.text_input.specs.declared.Ran.{Ran}
-use Rattle.text_input.specs.Scan.{runOf, outs}
-use Rattle.text_input.specs.Inner.{ranBy}
+use Rattle.text_input.specs.Scan.{runOf}
+use Rattle.text_input.specs.Inner.{outs, ranBy}
 use Rattle.text_input.proofs.Room.{room}
 use Rattle.text_input.proofs.Stretch.{ran-is}
 use Rattle.basic_text.specs.Exports.{numbersOf, bytesOf}
