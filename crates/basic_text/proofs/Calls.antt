@@ -5,12 +5,12 @@
 --     few, room, scan-accepted           where it is accepted: the count stays within its limit, what is appended has room, and the answer
 --     finish-refused, finished           a finish that is refused, and one that is not: what its two places hold, and the answer
 use mathlib.Core.Path.{_≡_, refl, sym, ap, _∙_}
-use mathlib.Core.Bool.{Bool, true}
+use mathlib.Core.Bool.{Bool}
 use mathlib.Core.List.{List, [], _∷_}
 use Prim.Native.Nat.{ℕ, _+_, _-_, _*_, _/_, _≤_, _<_}
 use native.Mathlib.Omega.{arith}
-use lib.ListN.{length, take, drop, length-drop}
-use lib.Seq.{sets, take-all}
+use lib.ListN.{length, take, drop}
+use lib.Seq.{sets}
 use borrow.Author.Tests.{le-ltb}
 use Rattle.unicode.specs.Chars.{areChars}
 use Rattle.page.specs.Page.{accepted}
@@ -21,12 +21,13 @@ use Rattle.text_input.specs.declared.TextInput.{TextInput}
 use Rattle.text_input.specs.declared.Scanned.{Scanned}
 use Rattle.text_input.specs.declared.Ran.{Ran}
 use Rattle.text_input.specs.Inner.{outs, ranBy}
-use Rattle.text_input.specs.Scan.{Outcome, runOf, maxCount, placesForChunk, refusalOf, skipped, opened, outcome, finishChars, finishNext, finishOf}
+use Rattle.text_input_parts.specs.Refusals.{maxCount, placesForChunk, refusalOf}
+use Rattle.text_input.specs.Scan.{Outcome, runOf, skipped, opened, outcome, finishChars, finishNext, finishOf}
 use Rattle.text_input.proofs.Room.{finish-room}
 use Rattle.text_input.proofs.Calls.{Asked, whole, refused-is, counts, enough, accepted-is}
 use Rattle.text_input.proofs.Calls as calls
 use Rattle.basic_text.specs.Exports.{numbersOf, bytesOf}
-use Rattle.basic_text.proofs.Laws.{Bytes, length-numbers, length-bytes, with-all, with-filled}
+use Rattle.basic_text.proofs.Laws.{Bytes, length-numbers, with-all, with-filled}
 use Rattle.basic_text.proofs.Stores.{stored-first}
 
 -- the answer s and the queue's bytes q are those of an outcome on the queue's numbers

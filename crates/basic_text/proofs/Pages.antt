@@ -17,7 +17,8 @@ use Rattle.page.proofs.PageLaws.{facts-of-accepted}
 use Rattle.text_input.specs.declared.Options.{Options}
 use Rattle.text_input.specs.declared.TextInput.{TextInput}
 use Rattle.text_input.specs.declared.Scanned.{Scanned}
-use Rattle.text_input.specs.Scan.{Outcome, outcome, chunkRefusal, refusalOf, scanOf}
+use Rattle.text_input_parts.specs.Refusals.{chunkRefusal, refusalOf}
+use Rattle.text_input.specs.Scan.{Outcome, outcome, scanOf}
 use Rattle.text_output.specs.declared.TextOutput.{TextOutput}
 use Rattle.text_output.specs.declared.WrittenBytes.{WrittenBytes}
 use Rattle.text_output.specs.Writer.{BytesOutcome, bytesOutcome, machineOf, sound}

@@ -28,7 +28,7 @@ use run::skips;
 use text_input::Options;
 use text_input::Scanned;
 use text_input::TextInput;
-use text_input::refusal;
+use text_input_parts::refusals::refusal;
 use writing::write;
 ghost use mathlib.Core.Path.{_≡_};
 ghost use Prim.Native.Nat.{_≤_};

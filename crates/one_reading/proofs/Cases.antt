@@ -8,9 +8,11 @@ use Rattle.page.specs.Page.{sized, rising, nonstarter, assigned, accepted}
 use Rattle.text_utils.specs.Classes.{starter, graphemeExtendNotCgj, spacingMarkPlus, basicTextStart, basicTextEnd, isPrivateUse}
 use Rattle.replace.specs.Replace.{replaceOf}
 use Rattle.isolate_unassigned.specs.Isolate.{toIsolate, isolateStepOf as isolateStep, isolateOf}
-use Rattle.text_input.specs.Sets.{final, stringEnd, upTo7F, newlineChar, optionalLine}
+use Rattle.text_input_parts.specs.Sets.{final, stringEnd, upTo7F, newlineChar}
+use Rattle.text_input.specs.Sets.{optionalLine}
 use Rattle.text_input.specs.Step.{leaveOf, meetOf, scanStepOf}
-use Rattle.text_input.specs.Scan.{chunkRefusal, refusalOf, scanOf, finishOf}
+use Rattle.text_input_parts.specs.Refusals.{chunkRefusal, refusalOf}
+use Rattle.text_input.specs.Scan.{scanOf, finishOf}
 use Rattle.one_reading.specs.Cases.{Row, table, computed}
 
 -- "The first twelve are proved, with the page 0 1 0 377 (no nonstarters, 0..377 assigned); scans end as end of file." "Cases 1 to 12

@@ -4,7 +4,7 @@
 --     queue-listed    the queue is what scans of the accepted chunks and the finish append
 --     count-listed    the count is the number of characters in the accepted chunks, whatever the calls bring
 --     chars-listed    the accepted chunks are characters
-use Prim.Native.Nat.{ℕ, _+_, _≤_, _<_}
+use Prim.Native.Nat.{ℕ, _+_, _≤_}
 use mathlib.Core.Bool.{Bool, true, false, cond}
 use mathlib.Core.List.{List, [], _∷_, _++_, append-assoc, append-nil, flatten}
 use mathlib.Core.Path.{_≡_, refl, sym, _∙_}
@@ -12,17 +12,17 @@ use native.Mathlib.Omega.{arith}
 use lib.Dec.{eqb, ltb}
 use lib.ListN.{length, drop, length-append}
 use lib.Seq.{sets}
-use borrow.Author.Tests.{eqb-true, ltb-false, lt-ltb}
-use Rattle.common.proofs.Kit.{by, by-lt}
+use borrow.Author.Tests.{eqb-true}
 use Rattle.common.proofs.Lists.{take-first}
 use Rattle.unicode.specs.Chars.{areChars}
 use Rattle.page.specs.Page.{accepted}
 use Rattle.text_input.specs.declared.Options.{Options}
 use Rattle.text_input.specs.declared.TextInput.{TextInput}
 use Rattle.common.specs.Answers.{wroteIn}
-use Rattle.text_input.specs.Scan.{Outcome, refused, written, placesForChunk, scanRefusal, scanChars, scanNext, scanOf, finishChars, finishNext, finishOf, opened, skipped}
+use Rattle.text_input_parts.specs.Refusals.{placesForChunk}
+use Rattle.text_input.specs.Scan.{Outcome, refused, written, scanRefusal, scanChars, scanNext, scanOf, finishChars, finishNext, finishOf, opened, skipped}
 use Rattle.text_input.specs.Streams.{scansChars, scansNext}
-use Rattle.text_input.proofs.Calls.{ChunkPassed, passed, room-passed}
+use Rattle.text_input_parts.proofs.Passed.{ChunkPassed, passed, room-passed}
 use Rattle.text_input.proofs.Meaning.{ends-count}
 use Rattle.text_input.proofs.Room.{scan-room, finish-room}
 use Rattle.one_reading.proofs.Holds.{chars-append}

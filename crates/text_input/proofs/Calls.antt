@@ -1,73 +1,38 @@
 -- What an accepted call may rely on, and that answer, record and places are then the definition's.
---     chunk-passed, room-passed   what the two halves of a refusal that is none show
---     passed                      and both together
 --     Asked                       a scan that is asked for, and the number of its refusal
 --     refused-is                  its outcome where it is refused
 --     right-page, counts, from-le, enough, accepted-is
 --                                 where it is accepted: the page is, the count stays within its limit, the chunk has what is skipped,
 --                                 what it appends has room, and its outcome
 --     finish-refused, finished-is a finish
-use mathlib.Core.Path.{_≡_, refl, sym, _∙_}
+use mathlib.Core.Path.{_≡_, sym, _∙_}
 use mathlib.Core.Bool.{Bool, true, false, cond, not, _&&_, _||_}
 use mathlib.Core.List.{List, [], _∷_, _++_}
-use Prim.Native.Nat.{ℕ, zero, suc, _+_, _-_, _*_, _≤_, _<_}
+use Prim.Native.Nat.{ℕ, suc, _+_, _-_, _≤_, _<_}
 use native.Mathlib.Nat.{zero-add}
 use native.Mathlib.Omega.{arith}
-use borrow.Author.Tests.{ltb-false, eqb-true, eqb-false, eq-eqb, ne-eqb, lt-ltb, le-ltb}
-use lib.Dec.{eqb, ltb, leb}
-use lib.ListN.{length, take, drop, length-drop}
+use borrow.Author.Tests.{eq-eqb, ne-eqb, lt-ltb, le-ltb}
+use lib.Dec.{eqb}
+use lib.ListN.{length, drop}
 use lib.Seq.{sets}
 use Rattle.unicode.specs.Chars.{areChars}
-use Rattle.common.proofs.Kit.{by, split}
+use Rattle.common.proofs.Kit.{split}
 use Rattle.page.specs.Page.{accepted}
 use Rattle.common.specs.declared.Answer.the-variants.{Written}
 use Rattle.text_input.specs.declared.State.the-variants.{Ground}
 use Rattle.text_input.specs.declared.Options.{Options}
 use Rattle.text_input.specs.declared.TextInput.{TextInput}
-use Rattle.text_input.specs.declared.step.Lead.{Lead}
-use Rattle.text_input.specs.Step.{leadChars, lastOf}
-use Rattle.text_input.specs.Scan.{runOf, maxCount, placesForChunk, chunkRefusal, roomRefusal, refusalOf, scanRefusal, leadingBom, skipped, opened, Outcome, outcome, refused, scanOf, pendingOf, afterLine, endMarkOf, newlineOf, finishChars, finishNext, finishOf}
+use Rattle.text_input_parts.specs.declared.queue.Lead.{Lead}
+use Rattle.text_input_parts.specs.Appended.{leadChars, lastOf, endMarkOf, newlineOf}
+use Rattle.text_input_parts.specs.Refusals.{maxCount, placesForChunk}
+use Rattle.text_input.specs.Scan.{runOf, scanRefusal, leadingBom, skipped, opened, Outcome, outcome, refused, scanOf, pendingOf, afterLine, finishChars, finishNext, finishOf}
 use Rattle.text_input.specs.declared.Ran.{Ran}
 use Rattle.text_input.specs.Inner.{outs, ranBy}
-use Rattle.text_input.proofs.Kit.{last-three}
+use Rattle.text_input_parts.proofs.Last.{last-three}
+use Rattle.text_input_parts.proofs.Passed.{ChunkPassed, passed}
 use Rattle.text_input.proofs.Room.{part-room, ending-room}
 
--- ---- a refusal that is none
-tests-passed : (a b d : Bool) → _≡_ {A = ℕ} (cond (not a) 2 (cond (not b) 1 (cond d 10 0))) 0 → (a ≡ true) × (b ≡ true) × (d ≡ false)
-tests-passed true true false h = (refl, refl, refl)
-tests-passed true true true h = absurd (omega arith)
-tests-passed true false d h = absurd (omega arith)
-tests-passed false b d h = absurd (omega arith)
-
-both-none : (a b : ℕ) → cond (eqb a 0) b a ≡ 0 → (a ≡ 0) × (b ≡ 0)
-both-none a b h =
-    by (eqb a 0) (λ e. (eqb-true a 0 e, rw e at h))
-    (λ e. let z : a ≡ 0 = rw e at h in absurd (eqb-false a 0 e z))
-
-pub record ChunkPassed (count : ℕ) (page chars : Bool) (n : ℕ) : Type 0 where
-  pub right-page : page ≡ true
-  pub are-chars : chars ≡ true
-  pub counts : count + n ≤ maxCount
-
-pub chunk-passed : (count : ℕ) (page chars : Bool) (n : ℕ) → chunkRefusal count page chars n ≡ 0 → ChunkPassed count page chars n
-unfolding chunkRefusal
-chunk-passed count page chars n h =
-    let t = tests-passed page chars (ltb maxCount (count + n)) h in
-    record { right-page = t .0; are-chars = t .1; counts = ltb-false maxCount (count + n) (t .2) }
-
-pub room-passed : (needed room : ℕ) → roomRefusal needed room ≡ 0 → needed ≤ room
-room-passed needed room h =
-    by (ltb room needed) (λ e. let z : ⊥ = omega (arith, rw e at h) in absurd z) (λ e. ltb-false room needed e)
-
-pub passed : (count : ℕ) (page chars : Bool) (n needed room : ℕ) → refusalOf count page chars n needed room ≡ 0 →
-    ChunkPassed count page chars n × (needed ≤ room)
-unfolding refusalOf
-passed count page chars n needed room h =
-    let b = both-none (chunkRefusal count page chars n) (roomRefusal needed room) h in
-    (chunk-passed count page chars n (b .0), room-passed needed room (b .1))
-
 -- ---- a scan
-
 bom-le : (cs : List ℕ) → leadingBom cs ≤ length cs
 bom-le [] = omega arith
 bom-le (c ∷ cs) = one (eqb c 0xFEFF)

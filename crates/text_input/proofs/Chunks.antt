@@ -16,8 +16,8 @@ use native.Mathlib.Nat.{add-assoc}
 use native.Mathlib.Omega.{arith}
 use Rattle.text_input.specs.declared.Options.{Options}
 use Rattle.text_input.specs.declared.TextInput.{TextInput}
-use Rattle.text_input.specs.declared.step.Lead.{Lead}
-use Rattle.text_input.specs.declared.step.Lead.the-variants.{Nothing, Char}
+use Rattle.text_input_parts.specs.declared.queue.Lead.{Lead}
+use Rattle.text_input_parts.specs.declared.queue.Lead.the-variants.{Nothing, Char}
 use Rattle.text_input.specs.declared.step.Left.{Left}
 use Rattle.text_input.specs.declared.step.Left.the-variants.{Part, Newline, Goes, Ends, After, Dropped}
 use Rattle.text_input.specs.declared.step.Met.{Met}

@@ -6,8 +6,8 @@
 --                                            check or one of those that it lists though nothing replaces them, and no ESC
 --     run-chars, scan-chars, finish-chars    all that is appended are characters
 use Prim.Native.Nat.{ℕ, zero, suc, _+_}
-use mathlib.Core.Path.{_≡_, refl, _∙_}
-use mathlib.Core.Bool.{Bool, true, false, cond, not, _&&_}
+use mathlib.Core.Path.{_≡_, refl}
+use mathlib.Core.Bool.{Bool, true, false, not, _&&_}
 use mathlib.Core.List.{List, [], _∷_, _++_}
 use native.Mathlib.Omega.{arith}
 use lib.Dec.{T}
@@ -25,15 +25,16 @@ use Rattle.text_input.specs.declared.State.{State}
 use Rattle.text_input.specs.declared.State.the-variants.{Ground, Cr, Ff, Esc, CsiStart, Csi, Osc, Linux}
 use Rattle.text_input.specs.declared.Options.{Options}
 use Rattle.text_input.specs.declared.TextInput.{TextInput}
-use Rattle.text_input.specs.declared.step.Lead.{Lead}
-use Rattle.text_input.specs.declared.step.Lead.the-variants.{Nothing, Char}
+use Rattle.text_input_parts.specs.declared.queue.Lead.{Lead}
+use Rattle.text_input_parts.specs.declared.queue.Lead.the-variants.{Nothing, Char}
 use Rattle.text_input.specs.declared.step.Left.{Left}
 use Rattle.text_input.specs.declared.step.Left.the-variants.{Part, Newline, Goes, Ends, After, Dropped}
 use Rattle.text_input.specs.declared.step.Met.{Met}
 use Rattle.text_input.specs.declared.step.Met.the-variants.{Line, Opens, Other}
-use Rattle.text_input.specs.Step.{leadChars, imageChars, outChars, firstChar, lastOf, leaveOf, meetOf, guardOf, metOf, leftOf, scanStepOf}
-use Rattle.text_input.specs.Scan.{skipped, opened, scanChars, scanNext, pendingOf, afterLine, endMarkOf, newlineOf, finishChars}
-use Rattle.text_input.specs.Inner.{outs, ends}
+use Rattle.text_input_parts.specs.Appended.{leadChars, firstChar, lastOf, endMarkOf, newlineOf}
+use Rattle.text_input.specs.Step.{outChars, leaveOf, meetOf, guardOf, metOf, leftOf, scanStepOf}
+use Rattle.text_input.specs.Scan.{skipped, opened, scanChars, pendingOf, afterLine, finishChars}
+use Rattle.text_input.specs.Inner.{outs}
 use Rattle.text_input.proofs.Room.{Given, given-pending}
 
 pub other-no-escape : (o : Options) (c : ℕ) → meetOf o c ≡ Other → c ≡ 0x1B → ⊥

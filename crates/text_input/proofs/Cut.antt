@@ -14,7 +14,7 @@ use lib.ListN.{length}
 use native.Mathlib.Omega.{arith}
 use Rattle.text_input.specs.declared.State.{State}
 use Rattle.text_input.specs.declared.State.the-variants.{Cr, Ff, Esc, CsiStart, Csi, Osc, Linux}
-use Rattle.text_input.specs.Sets.{parameter, final, stringEnd, upTo7F}
+use Rattle.text_input_parts.specs.Sets.{parameter, final, stringEnd, upTo7F}
 use Rattle.text_input.specs.Pieces.{Kind, lineEnd, pageRun, escape, stringChar}
 use Rattle.text_input.proofs.Recognise.{nothing, false-true, runs, feeds, afterLinux, afterBracket, afterEsc}
 

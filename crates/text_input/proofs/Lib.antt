@@ -1,6 +1,6 @@
 -- The proofs of this crate. First the readings and what the scanner makes of them: every text has one reading (`Unique`), the scanner
 -- over one piece (`Run`), over a text (`Meaning`), over chunks (`Chunks`) and over streams (`Streams`); the room a call needs (`Room`),
--- what the queue holds (`Clean`), the shared sets at their bounds (`Pins`). Then what the functions'
+-- what the queue holds (`Clean`), line ends by option and U+FEFF at their bounds (`Pins`). Then what the functions'
 -- contracts rest on.
 pub mod Recognise
 pub mod Cut

@@ -20,24 +20,26 @@ use Rattle.text_input.specs.declared.State.{State}
 use Rattle.text_input.specs.declared.State.the-variants.{Ground}
 use Rattle.text_input.specs.declared.Options.{Options}
 use Rattle.text_input.specs.declared.TextInput.{TextInput}
-use Rattle.text_input.specs.declared.step.Lead.{Lead}
-use Rattle.text_input.specs.declared.step.Lead.the-variants.{Nothing, Char}
-use Rattle.text_input.specs.declared.step.Image.{Image}
-use Rattle.text_input.specs.declared.step.Image.the-variants.{Empty, Chars}
+use Rattle.text_input_parts.specs.declared.queue.Lead.{Lead}
+use Rattle.text_input_parts.specs.declared.queue.Lead.the-variants.{Nothing, Char}
+use Rattle.text_input_parts.specs.declared.queue.Image.{Image}
+use Rattle.text_input_parts.specs.declared.queue.Image.the-variants.{Empty, Chars}
 use Rattle.text_input.specs.declared.step.Left.{Left}
 use Rattle.text_input.specs.declared.step.Left.the-variants.{Part, Newline, Goes, Ends, After, Dropped}
 use Rattle.text_input.specs.declared.step.Met.{Met}
 use Rattle.text_input.specs.declared.step.Met.the-variants.{Line, Opens, Other}
 use Rattle.text_input.specs.declared.step.Step.{Step}
-use Rattle.text_input.specs.Sets.{newlineChar, optionalLine}
-use Rattle.text_input.specs.Step.{outChars, leadChars, imageChars, lastOf, guardOf, madeOf, metOf, leftOf, leaveOf, meetOf}
+use Rattle.text_input_parts.specs.Sets.{newlineChar}
+use Rattle.text_input.specs.Sets.{optionalLine}
+use Rattle.text_input_parts.specs.Appended.{leadChars, imageChars, lastOf, endMarkOf, newlineOf}
+use Rattle.text_input.specs.Step.{outChars, guardOf, madeOf, metOf, leftOf, leaveOf, meetOf}
 use Rattle.text_input.specs.Step.{scanStepOf}
-use Rattle.text_input.specs.Scan.{endMarkOf, newlineOf, finishChars, finishNext, afterLine}
+use Rattle.text_input.specs.Scan.{finishChars, finishNext, afterLine}
 use Rattle.text_input.specs.Inner.{outs, ends}
 use Rattle.text_input.specs.Pieces.{isLine, lineChar, Piece, join, LongestPiece, EachLongest, Reading, pieceImage, image}
 use Rattle.text_input.specs.Pieces.{startMark}
 use Rattle.text_input.specs.Streams.{owedAfter}
-use Rattle.text_input.proofs.Kit.{last-append}
+use Rattle.text_input_parts.proofs.Last.{last-append}
 use Rattle.text_input.proofs.Cut.{Inner, cr, ff, esc, csiStart, csi, osc, linux, stateOf, kindOf, cut}
 use Rattle.text_input.proofs.Unique.{Class, opens, single, class, kindC, tailOf, longest-of, first-unique, no-piece}
 use Rattle.text_input.proofs.Run.{Closed, pre, expectAfter, guard, at, complete, told, onward, guard-line, run-cut}

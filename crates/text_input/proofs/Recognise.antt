@@ -12,7 +12,7 @@ use mathlib.Core.Path.{_≡_, refl}
 use lib.Dec.{eqb}
 use native.Mathlib.Omega.{arith}
 use borrow.Author.Tests.{eqb-true}
-use Rattle.text_input.specs.Sets.{parameter, final, stringEnd, upTo7F}
+use Rattle.text_input_parts.specs.Sets.{parameter, final, stringEnd, upTo7F}
 use Rattle.text_input.specs.Pieces.{Run, PageRun, Escape, stringChar, noBracket}
 
 -- ---- the tests

@@ -25,16 +25,19 @@ use Rattle.text_input.specs.declared.State.{State}
 use Rattle.text_input.specs.declared.State.the-variants.{Ground, Cr, Ff, Esc, CsiStart, Csi, Osc, Linux}
 use Rattle.text_input.specs.declared.Options.{Options}
 use Rattle.text_input.specs.declared.TextInput.{TextInput}
-use Rattle.text_input.specs.declared.step.Lead.{Lead}
-use Rattle.text_input.specs.declared.step.Lead.the-variants.{Nothing, Char}
+use Rattle.text_input_parts.specs.declared.queue.Lead.{Lead}
+use Rattle.text_input_parts.specs.declared.queue.Lead.the-variants.{Nothing, Char}
 use Rattle.text_input.specs.declared.step.Left.{Left}
 use Rattle.text_input.specs.declared.step.Left.the-variants.{Part, Newline, Goes, Ends, After, Dropped}
 use Rattle.text_input.specs.declared.step.Met.{Met}
 use Rattle.text_input.specs.declared.step.Met.the-variants.{Line, Opens, Other}
 use Rattle.text_input.specs.declared.step.Step.{Step}
-use Rattle.text_input.specs.Sets.{parameter, final, stringEnd, upTo7F, newlineChar, optionalLine}
-use Rattle.text_input.specs.Step.{leadChars, imageChars, outChars, firstChar, lastOf, csiLeave, leaveOf, meetOf, guardOf, metOf, groundOf, leftOf, scanStepOf}
-use Rattle.text_input.specs.Scan.{placesForChunk, skipped, opened, scanChars, pendingOf, afterLine, endMarkOf, newlineOf, finishChars}
+use Rattle.text_input_parts.specs.Sets.{parameter, final, stringEnd, upTo7F, newlineChar}
+use Rattle.text_input.specs.Sets.{optionalLine}
+use Rattle.text_input_parts.specs.Appended.{leadChars, imageChars, firstChar, lastOf, endMarkOf, newlineOf}
+use Rattle.text_input.specs.Step.{outChars, csiLeave, leaveOf, meetOf, guardOf, metOf, groundOf, leftOf, scanStepOf}
+use Rattle.text_input_parts.specs.Refusals.{placesForChunk}
+use Rattle.text_input.specs.Scan.{skipped, opened, scanChars, pendingOf, afterLine, finishChars}
 use Rattle.text_input.specs.Inner.{outs}
 
 -- ---- what a record owes

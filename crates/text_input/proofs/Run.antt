@@ -18,15 +18,16 @@ use Rattle.text_input.specs.declared.State.{State}
 use Rattle.text_input.specs.declared.State.the-variants.{Ground, Cr, Csi, Osc}
 use Rattle.text_input.specs.declared.Options.{Options}
 use Rattle.text_input.specs.declared.TextInput.{TextInput}
-use Rattle.text_input.specs.declared.step.Lead.{Lead}
-use Rattle.text_input.specs.declared.step.Lead.the-variants.{Nothing, Char}
+use Rattle.text_input_parts.specs.declared.queue.Lead.{Lead}
+use Rattle.text_input_parts.specs.declared.queue.Lead.the-variants.{Nothing, Char}
 use Rattle.text_input.specs.declared.step.Left.{Left}
 use Rattle.text_input.specs.declared.step.Left.the-variants.{Part, Ends, After, Dropped}
 use Rattle.text_input.specs.declared.step.Met.{Met}
 use Rattle.text_input.specs.declared.step.Met.the-variants.{Line, Opens, Other}
 use Rattle.text_input.specs.declared.step.Step.{Step}
-use Rattle.text_input.specs.Sets.{parameter, final, stringEnd, upTo7F, newlineChar}
-use Rattle.text_input.specs.Step.{outChars, lastOf, metOf, leftOf, leaveOf, meetOf, scanStepOf}
+use Rattle.text_input_parts.specs.Sets.{parameter, final, stringEnd, upTo7F, newlineChar}
+use Rattle.text_input_parts.specs.Appended.{lastOf}
+use Rattle.text_input.specs.Step.{outChars, metOf, leftOf, leaveOf, meetOf, scanStepOf}
 use Rattle.text_input.specs.Scan.{finishChars, afterLine}
 use Rattle.text_input.specs.Pieces.{Kind, escape, isLine, stringChar, pieceImage, pageImage}
 use Rattle.text_input.proofs.Recognise.{cond-id}

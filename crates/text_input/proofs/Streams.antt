@@ -20,9 +20,9 @@ use Rattle.text_utils.proofs.Classes.{end-newline}
 use Rattle.text_input.specs.declared.State.the-variants.{Ground}
 use Rattle.text_input.specs.declared.Options.{Options}
 use Rattle.text_input.specs.declared.TextInput.{TextInput}
-use Rattle.text_input.specs.declared.step.Lead.the-variants.{Nothing, Char}
-use Rattle.text_input.specs.Step.{leadChars, lastOf}
-use Rattle.text_input.specs.Scan.{fresh, endMarkOf, finishChars, finishNext}
+use Rattle.text_input_parts.specs.declared.queue.Lead.the-variants.{Nothing, Char}
+use Rattle.text_input_parts.specs.Appended.{leadChars, lastOf, endMarkOf}
+use Rattle.text_input.specs.Scan.{fresh, finishChars, finishNext}
 use Rattle.text_input.specs.Inner.{outs, ends}
 use Rattle.text_input.specs.Pieces.{Piece, Reading, isLine, image, endMark, lastNewline, cleaned}
 use Rattle.text_input.specs.Streams.{Section, scansChars, scansNext, streamChars, streamNext, streamText, withoutBom, withoutBomFirst, withoutBomStream}

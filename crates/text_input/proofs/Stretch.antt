@@ -27,13 +27,14 @@ use Rattle.text_input.specs.declared.State.{State}
 use Rattle.text_input.specs.declared.State.the-variants.{Ground, Cr, Ff, Esc, CsiStart, Csi, Osc, Linux}
 use Rattle.text_input.specs.declared.Options.{Options}
 use Rattle.text_input.specs.declared.TextInput.{TextInput}
-use Rattle.text_input.specs.declared.step.Lead.the-variants.{Nothing}
-use Rattle.text_input.specs.declared.step.Image.the-variants.{Chars}
+use Rattle.text_input_parts.specs.declared.queue.Lead.the-variants.{Nothing}
+use Rattle.text_input_parts.specs.declared.queue.Image.the-variants.{Chars}
 use Rattle.text_input.specs.declared.step.Left.the-variants.{Goes}
 use Rattle.text_input.specs.declared.step.Met.the-variants.{Line, Other}
 use Rattle.text_input.specs.Sets.{optionalLine}
 use Rattle.text_input.specs.declared.step.Step.{Step}
-use Rattle.text_input.specs.Step.{scanStepOf, outChars, leaveOf, meetOf, madeOf, lastOf}
+use Rattle.text_input_parts.specs.Appended.{lastOf}
+use Rattle.text_input.specs.Step.{scanStepOf, outChars, leaveOf, meetOf, madeOf}
 use Rattle.text_input.specs.declared.Ran.{Ran}
 use Rattle.text_input.specs.Scan.{Effect, stepEffect, runOf}
 use Rattle.text_input.specs.Inner.{outs, ends, grounded, steady, passedBy, ranBy, Moves}

@@ -17,7 +17,8 @@ use lib.ListN.{length, length-append}
 use borrow.Author.Tests.{eqb-true}
 use native.Mathlib.Omega.{arith}
 use Rattle.text_input.specs.declared.Options.{Options}
-use Rattle.text_input.specs.Sets.{newlineChar, optionalLine}
+use Rattle.text_input_parts.specs.Sets.{newlineChar}
+use Rattle.text_input.specs.Sets.{optionalLine}
 use Rattle.text_input.specs.Pieces.{Kind, lineEnd, pageRun, escape, other, lineChar, LineEnd, PageRun, Escape, Other, Allowed}
 use Rattle.text_input.specs.Pieces.{Piece, join, LongestPiece, EachLongest, Reading}
 use Rattle.text_input.proofs.Recognise.{nothing, false-true, and-left, and-right, no-more, feeds, afterEsc, afterBracket}

@@ -8,7 +8,8 @@ use lib.ListN.{length}
 use Rattle.replace.specs.Replace.{chars, replaceOf}
 use Rattle.text_utils.specs.Classes.{basicTextStart, basicTextEnd}
 use Rattle.text_input.specs.declared.Options.{Options}
-use Rattle.text_input.specs.Sets.{parameter, final, stringEnd, upTo7F, newlineChar, optionalLine}
+use Rattle.text_input_parts.specs.Sets.{parameter, final, stringEnd, upTo7F, newlineChar}
+use Rattle.text_input.specs.Sets.{optionalLine}
 
 pub data Kind : Type 0 where
   lineEnd pageRun escape other : Kind

@@ -1,6 +1,6 @@
 -- The calls: a scan of a chunk and a finish, with what they answer, the record after and the lent places after, refused or not.
 -- Document 01, "A chunk comes in", "A stream finishes" and "Refused ..".
-use Prim.Native.Nat.{ℕ, zero, suc, _+_, _*_}
+use Prim.Native.Nat.{ℕ, _+_}
 use mathlib.Core.Bool.{Bool, true, false, cond, not, _&&_, _||_}
 use mathlib.Core.List.{List, [], _∷_, _++_}
 use lib.Dec.{eqb, ltb}
@@ -9,16 +9,17 @@ use lib.Seq.{sets}
 use Rattle.common.specs.Answers.{writtenNumbers}
 use Rattle.unicode.specs.Chars.{areChars}
 use Rattle.page.specs.Page.{accepted}
-use Rattle.text_utils.specs.Classes.{basicTextEnd}
 use Rattle.text_input.specs.declared.State.{State}
 use Rattle.text_input.specs.declared.State.the-variants.{Ground, Cr, Ff, Esc, CsiStart, Csi, Osc, Linux}
 use Rattle.text_input.specs.declared.Options.{Options}
 use Rattle.text_input.specs.declared.TextInput.{TextInput}
 use Rattle.text_input.specs.declared.Scanned.{Scanned}
-use Rattle.text_input.specs.declared.step.Lead.{Lead}
-use Rattle.text_input.specs.declared.step.Lead.the-variants.{Nothing, Char}
+use Rattle.text_input_parts.specs.declared.queue.Lead.{Lead}
+use Rattle.text_input_parts.specs.declared.queue.Lead.the-variants.{Nothing, Char}
 use Rattle.text_input.specs.declared.step.Step.{Step}
-use Rattle.text_input.specs.Step.{scanStepOf, outChars, leadChars, lastOf}
+use Rattle.text_input_parts.specs.Appended.{leadChars, lastOf, endMarkOf, newlineOf}
+use Rattle.text_input_parts.specs.Refusals.{placesForChunk, refusalOf}
+use Rattle.text_input.specs.Step.{scanStepOf, outChars}
 
 -- "A fresh record is one as first made"; its last character is an end, so that a finish adds no 34F to an empty text
 -- ".. with no call on it yet."
@@ -67,30 +68,6 @@ abbrev pub written : TextInput → List ℕ → List ℕ → Outcome
 written next out queue = record { numbers = 0 ∷ length out ∷ []; next = next; places = sets queue 0 out }
 
 -- ---- a scan
--- "A chunk of n characters needs 3 × n + 1 free places, an empty one none."
-abbrev pub placesForChunk : ℕ → ℕ
-placesForChunk zero = 0
-placesForChunk (suc n) = 3 * suc n + 1
-
--- "a 32-bit count"
-abbrev pub maxCount : ℕ
-maxCount = 4294967295
-
--- A refusal's number, and 0 for none. Whatever the places, by the record's count, whether the page is accepted, whether every value is
--- a character, and how many these are: "2 a wrong page", 1 for a value that is no character, "10 the count would pass 4,294,967,295".
-unfoldable pub chunkRefusal : ℕ → Bool → Bool → ℕ → ℕ
-chunkRefusal count page chars n = cond (not page) 2 (cond (not chars) 1 (cond (ltb maxCount (count + n)) 10 0))
-
--- By the places that are needed and those that are lent: "8 too few free places."; so "a scan saying 8 with places free (demand 2, the
--- refusal conditions)" does not pass.
-abbrev pub roomRefusal : ℕ → ℕ → ℕ
-roomRefusal needed room = cond (ltb room needed) 8 0
-
--- "Order: 2, 1, 10, 8."
-unfoldable pub refusalOf : ℕ → Bool → Bool → ℕ → ℕ → ℕ → ℕ
-refusalOf count page chars n needed room =
-    cond (eqb (chunkRefusal count page chars n) 0) (roomRefusal needed room) (chunkRefusal count page chars n)
-
 -- a scan's, by the record's count, the page, the chunk and the number of places
 abbrev pub scanRefusal : ℕ → List ℕ → List ℕ → ℕ → ℕ
 scanRefusal count p chunk room =
@@ -151,14 +128,6 @@ afterLine CsiStart = false
 afterLine Csi = false
 afterLine Osc = false
 afterLine Linux = false
-
--- "If the last character ever appended is no end, 34F follows."
-abbrev pub endMarkOf : ℕ → Lead
-endMarkOf last = cond (basicTextEnd last) Nothing (Char 0x34F)
-
--- 0A where it is owed
-abbrev pub newlineOf : Bool → Lead
-newlineOf owed = cond owed (Char 0x0A) Nothing
 
 -- "As end of file, 0A follows unless .. A push adds no 0A."
 abbrev pub finishChars : TextInput → Bool → List ℕ

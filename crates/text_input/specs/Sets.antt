@@ -1,30 +1,10 @@
--- The sets of characters that the steps (specs/Step.antt) and the pieces (specs/Pieces.antt) share. Document 01, "Pieces of a text".
--- proofs/Pins.antt holds each at its bounds, so that a wrong bound here is refused though both follow it.
+-- The line ends that an option adds, which the steps (specs/Step.antt) and the pieces (specs/Pieces.antt) share. The other sets that
+-- they share are those of `text_input_parts`. proofs/Pins.antt holds this one at its bounds, so that a wrong one is refused though both
+-- follow it.
 use Prim.Native.Nat.{ℕ}
 use mathlib.Core.Bool.{Bool, _&&_, _||_}
-use lib.Dec.{eqb, leb}
+use lib.Dec.{eqb}
 use Rattle.text_input.specs.declared.Options.{Options}
-
--- "20..3F"
-unfoldable pub parameter : ℕ → Bool
-parameter c = leb 0x20 c && leb c 0x3F
-
--- "one of 40..7E or 18"
-unfoldable pub final : ℕ → Bool
-final c = (leb 0x40 c && leb c 0x7E) || eqb c 0x18
-
--- "07 or 18"
--- so "letting a newline end an OSC (`ESC ]`) string" does not pass
-unfoldable pub stringEnd : ℕ → Bool
-stringEnd c = eqb c 0x07 || eqb c 0x18
-
--- "up to 7F"
-unfoldable pub upTo7F : ℕ → Bool
-upTo7F c = leb c 0x7F
-
--- "0D or 0A"
-unfoldable pub newlineChar : ℕ → Bool
-newlineChar c = eqb c 0x0A || eqb c 0x0D
 
 -- "with its option 85, or 2028 and 2029"
 -- "Options are `nel_compatibility` and `lsps_compatibility`."

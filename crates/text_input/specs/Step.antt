@@ -6,50 +6,32 @@
 -- 1B `[` `[`.
 use Prim.Native.Nat.{ℕ}
 use mathlib.Core.Bool.{Bool, true, false, cond}
-use mathlib.Core.List.{List, [], _∷_, _++_}
+use mathlib.Core.List.{List, _++_}
 use lib.Dec.{eqb}
 use Rattle.replace.specs.declared.Replaced.{Replaced}
-use Rattle.replace.specs.declared.Replaced.the-variants.{One, Two, Three}
-use Rattle.replace.specs.Replace.{chars, replaceOf}
+use Rattle.replace.specs.declared.Replaced.the-variants.{One}
+use Rattle.replace.specs.Replace.{replaceOf}
 use Rattle.text_utils.specs.Classes.{basicTextStart}
 use Rattle.text_input.specs.declared.State.{State}
 use Rattle.text_input.specs.declared.State.the-variants.{Ground, Cr, Ff, Esc, CsiStart, Csi, Osc, Linux}
 use Rattle.text_input.specs.declared.Options.{Options}
 use Rattle.text_input.specs.declared.TextInput.{TextInput}
-use Rattle.text_input.specs.declared.step.Lead.{Lead}
-use Rattle.text_input.specs.declared.step.Lead.the-variants.{Nothing, Char}
-use Rattle.text_input.specs.declared.step.Image.{Image}
-use Rattle.text_input.specs.declared.step.Image.the-variants.{Empty, Chars}
+use Rattle.text_input_parts.specs.declared.queue.Lead.{Lead}
+use Rattle.text_input_parts.specs.declared.queue.Lead.the-variants.{Nothing, Char}
+use Rattle.text_input_parts.specs.declared.queue.Image.{Image}
+use Rattle.text_input_parts.specs.declared.queue.Image.the-variants.{Empty, Chars}
 use Rattle.text_input.specs.declared.step.Left.{Left}
 use Rattle.text_input.specs.declared.step.Left.the-variants.{Part, Newline, Goes, Ends, After, Dropped}
 use Rattle.text_input.specs.declared.step.Met.{Met}
 use Rattle.text_input.specs.declared.step.Met.the-variants.{Line, Opens, Other}
 use Rattle.text_input.specs.declared.step.Step.{Step}
-use Rattle.text_input.specs.Sets.{parameter, final, stringEnd, upTo7F, newlineChar, optionalLine}
+use Rattle.text_input_parts.specs.Appended.{leadChars, imageChars, lastOf, firstChar}
+use Rattle.text_input_parts.specs.Sets.{parameter, final, stringEnd, upTo7F, newlineChar}
+use Rattle.text_input.specs.Sets.{optionalLine}
 
--- ---- what a step appends: a lead and an image
--- the lead: no character, or one, which is given for what was pending or is the 34F that guards the image
-abbrev pub leadChars : Lead → List ℕ
-leadChars Nothing = []
-leadChars (Char a) = a ∷ []
-
--- the image, which the character itself gives: empty, or the characters of a replacement
-abbrev pub imageChars : Image → List ℕ
-imageChars Empty = []
-imageChars (Chars r) = chars r
-
+-- what a step appends: a lead and an image
 abbrev pub outChars : Step → List ℕ
 outChars s = leadChars (s .lead) ++ imageChars (s .image)
-
--- the last character, after more were appended
-abbrev pub lastOf : ℕ → List ℕ → ℕ
-lastOf l [] = l
-lastOf l (x ∷ w) = lastOf x w
-
-abbrev pub firstChar : Replaced → ℕ
-firstChar (One a) = a
-firstChar (Two a b) = a
-firstChar (Three a b c) = a
 
 -- ---- what a character does to what is pending before it
 --     Part s     it is part of it: it gives nothing and leaves the state s

@@ -7,8 +7,8 @@ use mathlib.Core.List.{List, [], _∷_, _++_, flatten}
 use lib.ListN.{drop}
 use Rattle.text_input.specs.declared.Options.{Options}
 use Rattle.text_input.specs.declared.TextInput.{TextInput}
-use Rattle.text_input.specs.Step.{leadChars, lastOf}
-use Rattle.text_input.specs.Scan.{leadingBom, scanChars, scanNext, endMarkOf, newlineOf, finishChars, finishNext}
+use Rattle.text_input_parts.specs.Appended.{leadChars, lastOf, endMarkOf, newlineOf}
+use Rattle.text_input.specs.Scan.{leadingBom, scanChars, scanNext, finishChars, finishNext}
 use Rattle.text_input.specs.Pieces.{Piece, Reading, image, startMark, isLine}
 
 -- ---- the calls

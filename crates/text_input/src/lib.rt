@@ -2,31 +2,29 @@
 // ends or is pushed (`finish`). The queue is a lent slice: each call writes from its first place on. The record is a value: each call
 // takes one and answers the one after it. A chunk goes by stretches that are copied (crate `stretch`), and by a step for any other
 // character. Filling bytes from the queue is the crate `text_input_fill`.
+// What needs no record, sets of characters, what is appended and its stores, and refusals, is the crate `text_input_parts`.
 //     step.rt    one character in one state: `process_raw_string` without its loop
-//     queue.rt   storing what a step or a finish appends
-mod queue;
 mod step;
 
 use common::Answer;
-use common::COUNT_LIMIT;
 use common::NO_ROOM;
-use common::NOT_A_CHAR;
-use common::WRONG_PAGE;
 use page::is_accepted;
-use queue::put;
-use queue::put_three;
 use ranges::Range;
-use step::Lead;
-use step::last_lead;
 use stretch::ascii_or;
 use stretch::first_gap;
 use stretch::is_sought;
 use stretch::next_gap;
 use stretch::plain_end;
 use stretch::put_run;
-use text_utils::is_basic_text_end;
+use text_input_parts::queue::Lead;
+use text_input_parts::queue::end_mark;
+use text_input_parts::queue::last_lead;
+use text_input_parts::queue::owed_newline;
+use text_input_parts::queue::put;
+use text_input_parts::queue::put_three;
+use text_input_parts::refusals;
+use text_input_parts::refusals::refusal;
 use unicode::BOM;
-use unicode::CGJ;
 use unicode::are_chars;
 ghost use mathlib.Core.Path.{_≡_};
 ghost use mathlib.Core.Bool.{true};
@@ -35,8 +33,9 @@ ghost use lib.ListN.{length, drop};
 ghost use lib.Seq.{sets};
 ghost use Rattle.page.specs.Page.{accepted};
 ghost use Rattle.stretch.specs.Plain.{Gap};
+ghost use Rattle.text_input_parts.specs.Refusals.{maxCount};
 ghost use Rattle.text_input.specs.Step.{scanStepOf, outChars};
-ghost use Rattle.text_input.specs.Scan.{fresh, stepEffect, runOf, maxCount, chunkRefusal, roomRefusal, placesForChunk, refusalOf, skipped, opened, outcome, scanOf, pendingOf, afterLine, endMarkOf, newlineOf, finishOf};
+ghost use Rattle.text_input.specs.Scan.{fresh, stepEffect, runOf, skipped, opened, outcome, scanOf, pendingOf, afterLine, finishOf};
 ghost use Rattle.text_input.specs.Inner.{outs, grounded, steady, passedBy, ranBy, Moves};
 
 // What the characters so far leave open. `Ground`: nothing; its flag is true after a newline, and before the first character.
@@ -102,7 +101,7 @@ impl TextInput {
     pub const NORMALIZATION_BUFFER_SIZE: usize = unicode::NORMALIZATION_BUFFER_SIZE;
 
     // The most characters that the count holds.
-    pub const MAX_COUNT: usize = 4294967295;
+    pub const MAX_COUNT: usize = refusals::MAX_COUNT;
 
     // A record as first made.
     pub fn new() -> Self
@@ -125,7 +124,9 @@ impl TextInput {
         ensures places { λ r. ⌜ now (queue .exit) ≡ sets (now (queue .entry)) at (outChars (scanStepOf (now (page .entry)) options self c)) ⌝ }
     {
         let step = self.step(page, options, c);
-        let written = put(queue, at, step);
+        let lead = step.lead;
+        let image = step.image;
+        let written = put(queue, at, lead, image);
         let next = step.next;
         Ran { written, next }
     }
@@ -308,52 +309,6 @@ impl TextInput {
     }
 }
 
-// The number by which a chunk of n characters is refused whatever the places, and 0 for none: by the record's count, whether the page
-// is accepted, and whether every value is a character. Total.
-fn chunk_refusal(count: u32, page: bool, chars: bool, n: usize) -> u32
-    ensures { λ r. ⌜ r ≡ chunkRefusal count page chars n ⌝ }
-{
-    if !page {
-        WRONG_PAGE
-    } else if !chars {
-        NOT_A_CHAR
-    } else if TextInput::MAX_COUNT - (count as usize) < n {
-        COUNT_LIMIT
-    } else {
-        0
-    }
-}
-
-// The number by which a call that needs so many places is refused, and 0 for none. Total.
-fn room_refusal(needed: usize, room: usize) -> u32
-    ensures { λ r. ⌜ r ≡ roomRefusal needed room ⌝ }
-{
-    if room < needed { NO_ROOM } else { 0 }
-}
-
-// How many places a chunk of n characters needs. Inner: asks for a chunk that the count can hold, so that the sum cannot wrap.
-fn places_for(n: usize) -> usize
-    requires { ⌜ n ≤ maxCount ⌝ }
-    ensures { λ r. ⌜ r ≡ placesForChunk n ⌝ }
-{
-    if n == 0 {
-        return 0;
-    }
-    3 * n + 1
-}
-
-// The number by which a scan of n characters is refused, and 0 where it is accepted: first whatever the places, then by these. Total.
-pub fn refusal(count: u32, page: bool, chars: bool, n: usize, room: usize) -> u32
-    ensures { λ r. ⌜ r ≡ refusalOf count page chars n (placesForChunk n) room ⌝ }
-{
-    let no = chunk_refusal(count, page, chars, n);
-    if no == 0 {
-        room_refusal(places_for(n), room)
-    } else {
-        no
-    }
-}
-
 // Whether nothing is pending.
 fn is_ground(state: State) -> bool
     ensures { λ r. ⌜ r ≡ grounded state ⌝ }
@@ -400,22 +355,4 @@ fn after_line(state: State) -> bool
         State::Osc => false,
         State::Linux => false,
     }
-}
-
-// 34F after a last character that is no end.
-fn end_mark(last: u32) -> Lead
-    ensures { λ r. ⌜ r ≡ endMarkOf last ⌝ }
-{
-    if is_basic_text_end(last) {
-        Lead::Nothing
-    } else {
-        Lead::Char(CGJ)
-    }
-}
-
-// 0A where it is owed.
-fn owed_newline(owed: bool) -> Lead
-    ensures { λ r. ⌜ r ≡ newlineOf owed ⌝ }
-{
-    if owed { Lead::Char(0xa) } else { Lead::Nothing }
 }

@@ -6,11 +6,18 @@ use super::State;
 use super::TextInput;
 use replace::Replaced;
 use replace::replace;
+use text_input_parts::queue::Image;
+use text_input_parts::queue::Lead;
+use text_input_parts::queue::first_char;
+use text_input_parts::queue::last_image;
+use text_input_parts::queue::last_lead;
+use text_input_parts::sets::is_final;
+use text_input_parts::sets::is_newline_char;
+use text_input_parts::sets::is_parameter;
+use text_input_parts::sets::is_string_end;
+use text_input_parts::sets::up_to_del;
 use text_utils::is_basic_text_start;
-use unicode::BEL;
-use unicode::CAN;
 use unicode::CGJ;
-use unicode::DEL;
 use unicode::ESC;
 use unicode::FF;
 use unicode::LS;
@@ -18,22 +25,9 @@ use unicode::NEL;
 use unicode::PS;
 ghost use mathlib.Core.Path.{_≡_};
 ghost use mathlib.Core.Bool.{true};
-ghost use Rattle.replace.specs.Replace.{chars};
 ghost use Rattle.page.specs.Page.{accepted};
-ghost use Rattle.text_input.specs.Sets.{parameter, final, stringEnd, upTo7F, newlineChar, optionalLine};
-ghost use Rattle.text_input.specs.Step.{leaveOf, escLeave, csiLeave, meetOf, firstChar, guardOf, lastOf, leadChars, imageChars, madeOf, groundOf, scanStepOf};
-
-// What comes before an image: a character that was pending, or the 34F that guards the image's first character.
-pub enum Lead {
-    Nothing,
-    Char(u32),
-}
-
-// What the character itself gives.
-pub enum Image {
-    Empty,
-    Chars(Replaced),
-}
+ghost use Rattle.text_input.specs.Sets.{optionalLine};
+ghost use Rattle.text_input.specs.Step.{leaveOf, escLeave, csiLeave, meetOf, guardOf, madeOf, groundOf, scanStepOf};
 
 // What a character does to what is pending before it.
 pub enum Left {
@@ -67,41 +61,6 @@ pub struct Step {
     pub lead: Lead,
     pub image: Image,
     pub next: TextInput,
-}
-
-// 20..3F.
-fn is_parameter(c: u32) -> bool
-    ensures { λ r. ⌜ r ≡ parameter c ⌝ }
-{
-    (0x20 <= c) & (c <= 0x3f)
-}
-
-// 40..7E, or CAN.
-fn is_final(c: u32) -> bool
-    ensures { λ r. ⌜ r ≡ final c ⌝ }
-{
-    (0x40 <= c) & (c <= 0x7e) | (c == CAN)
-}
-
-// BEL or CAN.
-fn is_string_end(c: u32) -> bool
-    ensures { λ r. ⌜ r ≡ stringEnd c ⌝ }
-{
-    (c == BEL) | (c == CAN)
-}
-
-// Up to 7F.
-fn up_to_del(c: u32) -> bool
-    ensures { λ r. ⌜ r ≡ upTo7F c ⌝ }
-{
-    c <= DEL
-}
-
-// 0A or 0D.
-fn is_newline_char(c: u32) -> bool
-    ensures { λ r. ⌜ r ≡ newlineChar c ⌝ }
-{
-    (c == 0xa) | (c == 0xd)
 }
 
 // 85, 2028 or 2029, where its option is on.
@@ -208,16 +167,6 @@ fn meet(options: Options, c: u32) -> Met
     }
 }
 
-fn first_char(image: Replaced) -> u32
-    ensures { λ r. ⌜ r ≡ firstChar image ⌝ }
-{
-    match image {
-        Replaced::One(a) => a,
-        Replaced::Two(a, _) => a,
-        Replaced::Three(a, _, _) => a,
-    }
-}
-
 // The lead, or 34F where a start is expected and the image begins with none. Inner: asks for an accepted page.
 fn guard(page: &[u32], lead: Lead, expect: bool, image: Replaced) -> Lead
     requires { ⌜ accepted (now page) ≡ true ⌝ }
@@ -231,36 +180,6 @@ fn guard(page: &[u32], lead: Lead, expect: bool, image: Replaced) -> Lead
         }
     } else {
         lead
-    }
-}
-
-// The last character appended, after a lead.
-pub fn last_lead(last: u32, lead: Lead) -> u32
-    ensures { λ r. ⌜ r ≡ lastOf last (leadChars lead) ⌝ }
-{
-    match lead {
-        Lead::Nothing => last,
-        Lead::Char(a) => a,
-    }
-}
-
-fn last_replaced(image: Replaced) -> u32
-    ensures { λ r. ⌜ r ≡ lastOf 0 (chars image) ⌝ }
-{
-    match image {
-        Replaced::One(a) => a,
-        Replaced::Two(_, b) => b,
-        Replaced::Three(_, _, c) => c,
-    }
-}
-
-// The last character appended, after an image.
-fn last_image(last: u32, image: Image) -> u32
-    ensures { λ r. ⌜ r ≡ lastOf last (imageChars image) ⌝ }
-{
-    match image {
-        Image::Empty => last,
-        Image::Chars(r) => last_replaced(r),
     }
 }
 

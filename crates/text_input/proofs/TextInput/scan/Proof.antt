@@ -1,6 +1,5 @@
 -- `scan` meets its contract: where no refusal stands in the way, the run of the chunk, without a dropped U+FEFF, is what `scanOf`
 -- says.
-use mathlib.Core.Path.{_≡_}
 use native.Mathlib.Omega.{arith}
 use borrow.Author.Needs.{needs}
 use Rattle.common.proofs.Lists.{rest-is}

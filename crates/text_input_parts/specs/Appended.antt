@@ -1,0 +1,42 @@
+-- What a step or a finish appends. Document 01, "A chunk comes in" and "A stream finishes".
+use Prim.Native.Nat.{ℕ}
+use mathlib.Core.Bool.{Bool, cond}
+use mathlib.Core.List.{List, [], _∷_}
+use Rattle.replace.specs.declared.Replaced.{Replaced}
+use Rattle.replace.specs.declared.Replaced.the-variants.{One, Two, Three}
+use Rattle.replace.specs.Replace.{chars}
+use Rattle.text_utils.specs.Classes.{basicTextEnd}
+use Rattle.text_input_parts.specs.declared.queue.Lead.{Lead}
+use Rattle.text_input_parts.specs.declared.queue.Lead.the-variants.{Nothing, Char}
+use Rattle.text_input_parts.specs.declared.queue.Image.{Image}
+use Rattle.text_input_parts.specs.declared.queue.Image.the-variants.{Empty, Chars}
+
+-- ---- a step: a lead and an image
+-- the lead: no character, or one, which is given for what was pending or is the 34F that guards the image
+abbrev pub leadChars : Lead → List ℕ
+leadChars Nothing = []
+leadChars (Char a) = a ∷ []
+
+-- the image, which the character itself gives: empty, or the characters of a replacement
+abbrev pub imageChars : Image → List ℕ
+imageChars Empty = []
+imageChars (Chars r) = chars r
+
+-- the last character, after more were appended
+abbrev pub lastOf : ℕ → List ℕ → ℕ
+lastOf l [] = l
+lastOf l (x ∷ w) = lastOf x w
+
+abbrev pub firstChar : Replaced → ℕ
+firstChar (One a) = a
+firstChar (Two a b) = a
+firstChar (Three a b c) = a
+
+-- ---- a finish: two leads more, behind what was pending
+-- "If the last character ever appended is no end, 34F follows."
+abbrev pub endMarkOf : ℕ → Lead
+endMarkOf last = cond (basicTextEnd last) Nothing (Char 0x34F)
+
+-- 0A where it is owed
+abbrev pub newlineOf : Bool → Lead
+newlineOf owed = cond owed (Char 0x0A) Nothing

@@ -1,0 +1,28 @@
+-- The refusals of a scan. Document 01, "A chunk comes in" and "Refused ..".
+use Prim.Native.Nat.{ℕ, zero, suc, _+_, _*_}
+use mathlib.Core.Bool.{Bool, cond, not}
+use lib.Dec.{eqb, ltb}
+
+-- "A chunk of n characters needs 3 × n + 1 free places, an empty one none."
+abbrev pub placesForChunk : ℕ → ℕ
+placesForChunk zero = 0
+placesForChunk (suc n) = 3 * suc n + 1
+
+-- "a 32-bit count"
+abbrev pub maxCount : ℕ
+maxCount = 4294967295
+
+-- A refusal's number, and 0 for none. Whatever the places, by the record's count, whether the page is accepted, whether every value is
+-- a character, and how many these are: "2 a wrong page", 1 for a value that is no character, "10 the count would pass 4,294,967,295".
+unfoldable pub chunkRefusal : ℕ → Bool → Bool → ℕ → ℕ
+chunkRefusal count page chars n = cond (not page) 2 (cond (not chars) 1 (cond (ltb maxCount (count + n)) 10 0))
+
+-- By the places that are needed and those that are lent: "8 too few free places."; so "a scan saying 8 with places free (demand 2, the
+-- refusal conditions)" does not pass.
+abbrev pub roomRefusal : ℕ → ℕ → ℕ
+roomRefusal needed room = cond (ltb room needed) 8 0
+
+-- "Order: 2, 1, 10, 8."
+unfoldable pub refusalOf : ℕ → Bool → Bool → ℕ → ℕ → ℕ → ℕ
+refusalOf count page chars n needed room =
+    cond (eqb (chunkRefusal count page chars n) 0) (roomRefusal needed room) (chunkRefusal count page chars n)
