@@ -34,7 +34,7 @@ use Rattle.text_input.specs.declared.step.Met.the-variants.{Line, Other}
 use Rattle.text_input.specs.Sets.{optionalLine}
 use Rattle.text_input.specs.declared.step.Step.{Step}
 use Rattle.text_input_parts.specs.Appended.{lastOf}
-use Rattle.text_input.specs.Step.{scanStepOf, outChars, leaveOf, meetOf, madeOf}
+use Rattle.text_input.specs.Step.{scanStepOf, outChars, leaveOf, meetOf}
 use Rattle.text_input.specs.declared.Ran.{Ran}
 use Rattle.text_input.specs.Scan.{Effect, stepEffect, runOf}
 use Rattle.text_input.specs.Inner.{outs, ends, grounded, steady, passedBy, ranBy, Moves}
@@ -52,6 +52,9 @@ leave-ground Csi c h = search h
 leave-ground Osc c h = search h
 leave-ground Linux c h = search h
 
+steady-is : (r : TextInput) → steady r ≡ true → (grounded (r .state) ≡ true) × (r .«expect_starter» ≡ false)
+steady-is r s = let x = both-true _ _ s in (x .0, not-true (r .«expect_starter») (x .1))
+
 -- no line end, page character or ESC
 module _ (c : ℕ) (h : inSpans special c ≡ false) where
   differs : (k : ℕ) → inSpans special k ≡ true → eqb c k ≡ false
@@ -68,18 +71,18 @@ meet-line o = refl
 
 module _ (p : List ℕ) (o : Options) where
   abbrev Keeping : TextInput → ℕ → Type 0
-  Keeping r c = scanStepOf p o r c ≡ madeOf r Nothing (Chars (One c)) (Ground (eqb c 0x0A)) false
+  Keeping r c = scanStepOf p o r c ≡ record { lead = Nothing; image = Chars (One c); next = passedBy r c }
 
   keep-by : (r : TextInput) (c : ℕ) → steady r ≡ true → Kept c → (b : Bool) → eqb c 0x0A ≡ b → Keeping r c
   unfolding scanStepOf
   keep-by r c s k true e =
-      let x = both-true _ _ s in
+      let x = steady-is r s in
       let q : c ≡ 0x0A = eqb-true c 0x0A e in
-      simp (q, leave-ground (r .state) 0x0A (x .0), not-true (r .«expect_starter») (x .1), meet-line o)
+      simp (q, leave-ground (r .state) 0x0A (x .0), x .1, meet-line o)
   keep-by r c s k false e =
-      let x = both-true _ _ s in
+      let x = steady-is r s in
       let y = k e in
-      simp (leave-ground (r .state) c (x .0), not-true (r .«expect_starter») (x .1), meet-other c (y .other) o, y .same, e)
+      simp (leave-ground (r .state) c (x .0), x .1, meet-other c (y .other) o, y .same, e)
 
   pub keep-step : (r : TextInput) (c : ℕ) → steady r ≡ true → Kept c → Keeping r c
   keep-step r c s k = keep-by r c s k (eqb c 0x0A) refl
