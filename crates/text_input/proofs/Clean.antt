@@ -31,8 +31,8 @@ use Rattle.text_input.specs.declared.step.Left.{Left}
 use Rattle.text_input.specs.declared.step.Left.the-variants.{Part, Newline, Goes, Ends, After, Dropped}
 use Rattle.text_input.specs.declared.step.Met.{Met}
 use Rattle.text_input.specs.declared.step.Met.the-variants.{Line, Opens, Other}
-use Rattle.text_input_parts.specs.Appended.{leadChars, firstChar, lastOf, endMarkOf, newlineOf}
-use Rattle.text_input.specs.Step.{outChars, leaveOf, meetOf, guardOf, metOf, leftOf, scanStepOf}
+use Rattle.text_input_parts.specs.Appended.{leadChars, firstChar, lastOf, endMarkOf, newlineOf, guardOf}
+use Rattle.text_input.specs.Step.{outChars, leaveOf, meetOf, metOf, leftOf, scanStepOf}
 use Rattle.text_input.specs.Scan.{skipped, opened, scanChars, pendingOf, afterLine, finishChars}
 use Rattle.text_input.specs.Inner.{outs}
 use Rattle.text_input.proofs.Room.{Given, given-pending}

@@ -31,8 +31,8 @@ use Rattle.text_input.specs.declared.step.Met.the-variants.{Line, Opens,
 use Rattle.text_input.specs.declared.step.Step.{Step}
 use Rattle.text_input_parts.specs.Sets.{newlineChar}
 use Rattle.text_input.specs.Sets.{optionalLine}
-use Rattle.text_input_parts.specs.Appended.{leadChars, imageChars, lastOf, endMarkOf, newlineOf}
-use Rattle.text_input.specs.Step.{outChars, guardOf, madeOf, metOf, leftOf, leaveOf, meetOf}
+use Rattle.text_input_parts.specs.Appended.{leadChars, imageChars, lastOf, endMarkOf, newlineOf, guardOf}
+use Rattle.text_input.specs.Step.{outChars, madeOf, metOf, leftOf, leaveOf, meetOf}
 use Rattle.text_input.specs.Step.{scanStepOf}
 use Rattle.text_input.specs.Scan.{finishChars, finishNext, afterLine}
 use Rattle.text_input.specs.Inner.{outs, ends}

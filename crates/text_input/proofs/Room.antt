@@ -34,8 +34,8 @@ use Rattle.text_input.specs.declared.step.Met.the-variants.{Line, Opens,
 use Rattle.text_input.specs.declared.step.Step.{Step}
 use Rattle.text_input_parts.specs.Sets.{parameter, final, stringEnd, upTo7F, newlineChar}
 use Rattle.text_input.specs.Sets.{optionalLine}
-use Rattle.text_input_parts.specs.Appended.{leadChars, imageChars, firstChar, lastOf, endMarkOf, newlineOf}
-use Rattle.text_input.specs.Step.{outChars, csiLeave, leaveOf, meetOf, guardOf, metOf, groundOf, leftOf, scanStepOf}
+use Rattle.text_input_parts.specs.Appended.{leadChars, imageChars, firstChar, lastOf, endMarkOf, newlineOf, guardOf}
+use Rattle.text_input.specs.Step.{outChars, csiLeave, leaveOf, meetOf, metOf, groundOf, leftOf, scanStepOf}
 use Rattle.text_input_parts.specs.Refusals.{placesForChunk}
 use Rattle.text_input.specs.Scan.{skipped, opened, scanChars, pendingOf, afterLine, finishChars}
 use Rattle.text_input.specs.Inner.{outs}

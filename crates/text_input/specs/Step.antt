@@ -8,10 +8,8 @@ use Prim.Native.Nat.{ℕ}
 use mathlib.Core.Bool.{Bool, true, false, cond}
 use mathlib.Core.List.{List, _++_}
 use lib.Dec.{eqb}
-use Rattle.replace.specs.declared.Replaced.{Replaced}
 use Rattle.replace.specs.declared.Replaced.the-variants.{One}
 use Rattle.replace.specs.Replace.{replaceOf}
-use Rattle.text_utils.specs.Classes.{basicTextStart}
 use Rattle.text_input.specs.declared.State.{State}
 use Rattle.text_input.specs.declared.State.the-variants.{Ground, Cr, Ff, Esc, CsiStart, Csi, Osc, Linux}
 use Rattle.text_input.specs.declared.Options.{Options}
@@ -25,7 +23,7 @@ use Rattle.text_input.specs.declared.step.Left.the-variants.{Part, Newli
 use Rattle.text_input.specs.declared.step.Met.{Met}
 use Rattle.text_input.specs.declared.step.Met.the-variants.{Line, Opens, Other}
 use Rattle.text_input.specs.declared.step.Step.{Step}
-use Rattle.text_input_parts.specs.Appended.{leadChars, imageChars, lastOf, firstChar}
+use Rattle.text_input_parts.specs.Appended.{leadChars, imageChars, lastOf, guardOf}
 use Rattle.text_input_parts.specs.Sets.{parameter, final, stringEnd, upTo7F, newlineChar}
 use Rattle.text_input.specs.Sets.{optionalLine}
 
@@ -66,10 +64,6 @@ leaveOf Linux c = cond (upTo7F c) (Part (Ground false)) Ends
 unfoldable pub meetOf : Options → ℕ → Met
 meetOf o c =
     cond (eqb c 0x0A) Line (cond (eqb c 0x0D) (Opens Cr) (cond (eqb c 0x0C) (Opens Ff) (cond (eqb c 0x1B) (Opens Esc) (cond (optionalLine o c) Line Other))))
-
--- "Prepend a CGJ if needed to guard a non-starter": the lead with its image. Where a start is expected there is no lead before it.
-abbrev pub guardOf : List ℕ → Lead → Bool → Replaced → Lead
-guardOf p lead expect image = cond expect (cond (basicTextStart p (firstChar image)) lead (Char 0x34F)) lead
 
 -- ---- the step
 -- it appends this, and leaves this state and expectation

@@ -8,7 +8,7 @@ use replace::Replaced;
 use replace::replace;
 use text_input_parts::queue::Image;
 use text_input_parts::queue::Lead;
-use text_input_parts::queue::first_char;
+use text_input_parts::queue::guard;
 use text_input_parts::queue::last_image;
 use text_input_parts::queue::last_lead;
 use text_input_parts::sets::is_final;
@@ -16,8 +16,6 @@ use text_input_parts::sets::is_newline_char;
 use text_input_parts::sets::is_parameter;
 use text_input_parts::sets::is_string_end;
 use text_input_parts::sets::up_to_del;
-use text_utils::is_basic_text_start;
-use unicode::CGJ;
 use unicode::ESC;
 use unicode::FF;
 use unicode::LS;
@@ -27,7 +25,7 @@ ghost use mathlib.Core.Path.{_≡_};
 ghost use mathlib.Core.Bool.{true};
 ghost use Rattle.page.specs.Page.{accepted};
 ghost use Rattle.text_input.specs.Sets.{optionalLine};
-ghost use Rattle.text_input.specs.Step.{leaveOf, escLeave, csiLeave, meetOf, guardOf, madeOf, groundOf, scanStepOf};
+ghost use Rattle.text_input.specs.Step.{leaveOf, escLeave, csiLeave, meetOf, madeOf, groundOf, scanStepOf};
 
 // What a character does to what is pending before it.
 pub enum Left {
@@ -164,22 +162,6 @@ fn meet(options: Options, c: u32) -> Met
         Met::Line
     } else {
         Met::Other
-    }
-}
-
-// The lead, or 34F where a start is expected and the image begins with none. Inner: asks for an accepted page.
-fn guard(page: &[u32], lead: Lead, expect: bool, image: Replaced) -> Lead
-    requires { ⌜ accepted (now page) ≡ true ⌝ }
-    ensures { λ r. ⌜ r ≡ guardOf (now (page .entry)) lead expect image ⌝ }
-{
-    if expect {
-        if is_basic_text_start(page, first_char(image)) {
-            lead
-        } else {
-            Lead::Char(CGJ)
-        }
-    } else {
-        lead
     }
 }
 

@@ -5,7 +5,7 @@ use mathlib.Core.List.{List, [], _∷_}
 use Rattle.replace.specs.declared.Replaced.{Replaced}
 use Rattle.replace.specs.declared.Replaced.the-variants.{One, Two, Three}
 use Rattle.replace.specs.Replace.{chars}
-use Rattle.text_utils.specs.Classes.{basicTextEnd}
+use Rattle.text_utils.specs.Classes.{basicTextStart, basicTextEnd}
 use Rattle.text_input_parts.specs.declared.queue.Lead.{Lead}
 use Rattle.text_input_parts.specs.declared.queue.Lead.the-variants.{Nothing, Char}
 use Rattle.text_input_parts.specs.declared.queue.Image.{Image}
@@ -31,6 +31,10 @@ abbrev pub firstChar : Replaced → ℕ
 firstChar (One a) = a
 firstChar (Two a b) = a
 firstChar (Three a b c) = a
+
+-- "Prepend a CGJ if needed to guard a non-starter": the lead with its image. Where a start is expected there is no lead before it.
+abbrev pub guardOf : List ℕ → Lead → Bool → Replaced → Lead
+guardOf p lead expect image = cond expect (cond (basicTextStart p (firstChar image)) lead (Char 0x34F)) lead
 
 -- ---- a finish: two leads more, behind what was pending
 -- "If the last character ever appended is no end, 34F follows."

@@ -2,14 +2,17 @@
 // it asks for room, and answers the place after what it stored.
 use replace::Replaced;
 use text_utils::is_basic_text_end;
+use text_utils::is_basic_text_start;
 use unicode::CGJ;
 ghost use mathlib.Core.Path.{_≡_};
+ghost use mathlib.Core.Bool.{true};
 ghost use mathlib.Core.List.{_++_};
 ghost use Prim.Native.Nat.{_+_, _≤_};
 ghost use lib.ListN.{length};
 ghost use lib.Seq.{sets};
+ghost use Rattle.page.specs.Page.{accepted};
 ghost use Rattle.replace.specs.Replace.{chars};
-ghost use Rattle.text_input_parts.specs.Appended.{leadChars, imageChars, firstChar, lastOf, endMarkOf, newlineOf};
+ghost use Rattle.text_input_parts.specs.Appended.{leadChars, imageChars, firstChar, guardOf, lastOf, endMarkOf, newlineOf};
 
 // What comes before an image: a character that was pending, or the 34F that guards the image's first character.
 pub enum Lead {
@@ -23,13 +26,29 @@ pub enum Image {
     Chars(Replaced),
 }
 
-pub fn first_char(image: Replaced) -> u32
+fn first_char(image: Replaced) -> u32
     ensures { λ r. ⌜ r ≡ firstChar image ⌝ }
 {
     match image {
         Replaced::One(a) => a,
         Replaced::Two(a, _) => a,
         Replaced::Three(a, _, _) => a,
+    }
+}
+
+// The lead, or 34F where a start is expected and the image begins with none. Inner: asks for an accepted page.
+pub fn guard(page: &[u32], lead: Lead, expect: bool, image: Replaced) -> Lead
+    requires { ⌜ accepted (now page) ≡ true ⌝ }
+    ensures { λ r. ⌜ r ≡ guardOf (now (page .entry)) lead expect image ⌝ }
+{
+    if expect {
+        if is_basic_text_start(page, first_char(image)) {
+            lead
+        } else {
+            Lead::Char(CGJ)
+        }
+    } else {
+        lead
     }
 }
 

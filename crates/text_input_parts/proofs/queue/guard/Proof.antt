@@ -2,8 +2,8 @@
 use mathlib.Core.Path.{sym}
 use borrow.Author.Needs.{needs}
 use Rattle.common.proofs.Kit.{tests}
-use Rattle.text_input.proofs.step.guard.Statement.{statement}
-use Rattle.text_input.proofs.step.guard.Tie as tie
+use Rattle.text_input_parts.proofs.queue.guard.Statement.{statement}
+use Rattle.text_input_parts.proofs.queue.guard.Tie as tie
 
 returns : tie.Need-returns
 returns c =
