@@ -2,6 +2,7 @@
 -- `abandon` on any record. Idea: outside an escape nothing is held, and a step that holds one character more leads to a state that can
 -- have it.
 --     IsSound                                                     the record is sound
+--     step-sound                                                  .. after a step from a sound one
 --     write-sound, write-bytes-sound, flush-sound, close-sound    .. after each call on a sound one
 --     abandon-sound                                               .. after `abandon` on any
 use Prim.Native.Nat.{ℕ, _+_}
@@ -19,12 +20,13 @@ use Rattle.text_utils.specs.Classes.{basicTextStart}
 use Rattle.text_output.specs.declared.Ground.the-variants.{Newline, ZwjOrPrepend, Other}
 use Rattle.text_output.specs.declared.State.{State}
 use Rattle.text_output.specs.declared.State.the-variants.{Ground, Esc, Csi}
+use Rattle.text_output.specs.declared.Mode.{Mode}
 use Rattle.text_output.specs.declared.TextOutput.{TextOutput}
 use Rattle.text_output.specs.Writer.{Given, Outcome, Machine, machineOf, escapeLimit, heldIn, sound}
-use Rattle.text_output.specs.Step.{Stepped, goes, stops, holding}
+use Rattle.text_output.specs.Step.{Stepped, goes, stops, holding, writeStepOf}
 use Rattle.text_output.specs.Write.{runIn, endedBy, writtenBy, unlessRefused, writeStrRefusal, writeStrOf, writeBytesRefusal, writeOf}
 use Rattle.text_output.specs.Close.{flushIn, flushOf, closeIn, closeOf, abandonOf}
-use Rattle.text_output.proofs.Steps.{Grows, opened, begun, longer, Holds, mode-holds}
+use Rattle.text_output.proofs.Steps.{Grows, opened, begun, longer, Holds, step-holds, mode-holds}
 
 -- the record is sound
 abbrev pub IsSound : TextOutput → Type 0
@@ -40,6 +42,11 @@ hold-sound m Csi Csi c h (longer low) =
 
 held-by : (m : Machine) (s : State) → m .state ≡ s → sound m ≡ true → heldIn s (m .held) ≡ true
 held-by m s e h = rw e at (both-true (leb (m .held) escapeLimit) (heldIn (m .state) (m .held)) h .1)
+
+pub step-sound : (mode : Mode) (m : Machine) (error : List ℕ) (c : ℕ) → sound m ≡ true →
+    Holds (λ (n : Machine). sound n ≡ true) (writeStepOf mode m error c)
+step-sound =
+    step-holds (λ (m : Machine). sound m ≡ true) (λ m g s. refl) (λ m s t c e g i. hold-sound m s t c (held-by m s e i) g)
 
 -- ---- a write
 module _ (w : TextOutput) (h : IsSound w) where

@@ -3,6 +3,7 @@
 --     StepRefusal    the numbers of a refused step
 --     Grows          the states in which one character more is held
 --     Holds          what some steps leave true
+--     step-holds     one step leaves it true
 --     mode-holds     .. the steps of a write, in any mode
 --     mode-refuses   a refused one of them is refused by 4 or 6
 use Prim.Native.Nat.{ℕ, _<_}
@@ -59,7 +60,7 @@ module _ (I : Machine → Type 0) (ground : (m : Machine) (g : Ground) → I m �
       (λ q. (h, four))
 
   -- any character in any state
-  step-holds : (m : Machine) (error : List ℕ) (c : ℕ) → I m → Holds I (writeStepOf mode m error c)
+  pub step-holds : (m : Machine) (error : List ℕ) (c : ℕ) → I m → Holds I (writeStepOf mode m error c)
   unfolding writeStepOf
   step-holds m error c h = split (Holds I) (eqb c 0x1A) (λ q. (h, four)) (λ q. asked-holds m (m .state) c refl h)
 

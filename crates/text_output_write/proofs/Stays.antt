@@ -6,26 +6,26 @@
 --     rest-stays    of what is left of a write, three for each character, and the 34F that is owed
 use Prim.Native.Nat.{ℕ, _+_, _*_, _≤_}
 use mathlib.Core.Path.{_≡_, refl}
-use mathlib.Core.Bool.{Bool, true, false, _&&_}
+use mathlib.Core.Bool.{true, false, _&&_}
 use mathlib.Core.List.{List, [], _∷_, _++_}
 use native.Mathlib.Omega.{arith}
-use lib.Dec.{eqb, leb, ltb}
+use lib.Dec.{eqb}
 use lib.ListN.{length, take, length-append, length-take}
-use borrow.Author.Tests.{eqb-true, ltb-true, leb-true, le-leb}
-use Rattle.common.proofs.Kit.{by, both-true, both}
+use borrow.Author.Tests.{eqb-true}
+use Rattle.common.proofs.Kit.{by}
 use Rattle.check_char.specs.Check.{checkNumbers}
 use Rattle.isolate_unassigned.specs.declared.IsolateUnassigned.{IsolateUnassigned}
 use Rattle.isolate_unassigned.specs.Isolate.{fresh, givesOut, after, lastOwed}
 use Rattle.isolate_unassigned.specs.Isolate.{isolateStepOf as isolatedBy}
 use Rattle.isolate_unassigned.proofs.Laws.{givesOut-size, lastOwed-size}
-use Rattle.text_output.specs.declared.State.{State}
-use Rattle.text_output.specs.declared.State.the-variants.{Ground, Esc, Csi}
 use Rattle.text_output.specs.declared.Mode.{Mode}
 use Rattle.text_output.specs.declared.Step.{Step}
 use Rattle.text_output.specs.declared.Step.the-variants.{Out, Hold, Whole, NoColor, Unrecognized, Full}
-use Rattle.text_output.specs.Writer.{Machine, escapeLimit, heldIn, sound}
-use Rattle.text_output.specs.Step.{Stepped, goes, stops, behind, andThen, isColor, inSequence, askedIn, doneBy, writeStepOf, stepsOf}
+use Rattle.text_output.specs.Writer.{Machine, sound}
+use Rattle.text_output.specs.Step.{Stepped, goes, stops, behind, andThen, askedIn, doneBy, writeStepOf, stepsOf}
 use Rattle.text_output.specs.Write.{checked, putCrlf}
+use Rattle.text_output.proofs.Steps.{Holds}
+use Rattle.text_output.proofs.Sound.{step-sound}
 use Rattle.text_output_write.specs.Inner.{pushed, machineAfter, isCrlf, turnOf, isolatorAfter}
 use Rattle.text_output_write.proofs.Asked.{step-asked, refused-stops}
 use Rattle.text_output_write.proofs.Rest.{restOf}
@@ -57,54 +57,33 @@ stays-then n k m (goes xs v) more t f =
 stays-then n k m (stops xs v e) more t f = stays-more n (n + k) m (stops xs v e) (omega arith) t
 
 -- ---- one step
--- the held count that a state can have, after a character is held
-fits : Step → ℕ → Bool
-fits (Out g) held = true
-fits (Hold s) held = leb (held + 1) escapeLimit && heldIn s (held + 1)
-fits Whole held = true
-fits NoColor held = true
-fits Unrecognized held = true
-fits Full held = true
+holds-after : (s : Stepped) → Holds (λ (m : Machine). sound m ≡ true) s → sound (machineAfter s) ≡ true
+holds-after (goes xs m) h = h
+holds-after (stops xs m n) h = h .0
 
-asked-fits : (s : State) (mode : Mode) (held c : ℕ) → heldIn s held ≡ true → fits (askedIn s mode held c) held ≡ true
-unfolding fits
-asked-fits (Ground g) mode held c h =
-    let z = eqb-true held 0 h in
-    by (eqb c 0x1B) (λ e. by (isColor mode) (λ k. rw (e, k, z) refl) (λ k. rw (e, k) refl)) (λ e. rw e refl)
-asked-fits Esc mode held c h = let z = eqb-true held 1 h in by (eqb c 0x5B) (λ e. rw (e, z) refl) (λ e. rw e refl)
-asked-fits Csi mode held c h =
-    by (inSequence c)
-    (λ e.
-    by (ltb held escapeLimit)
-    (λ k.
-    by (eqb c 0x6D) (λ l. rw (e, k, l) refl)
-    (λ l.
-    let low = ltb-true held escapeLimit k in
-    let two = leb-true 2 held h in
-    rw (e, k, l) (both (le-leb (held + 1) escapeLimit (omega (arith, low))) (le-leb 2 (held + 1) (omega (arith, two))))))
-    (λ k. rw (e, k) refl))
-    (λ e. rw e refl)
-
-done-stays : (a : Step) (m : Machine) (c : ℕ) → sound m ≡ true → fits a (m .held) ≡ true → Stays 1 m (doneBy a m c)
-unfolding fits
-done-stays (Out g) m c s f = record { is-sound = refl; size = omega arith }
-done-stays (Hold t) m c s f = record { is-sound = f; size = omega arith }
-done-stays Whole m c s f =
-    let e = m .escape in
-    record { is-sound = refl; size = omega (arith, length-append (take (m .held) e) (c ∷ []), length-take (m .held) e) }
-done-stays NoColor m c s f = record { is-sound = s; size = omega arith }
-done-stays Unrecognized m c s f = record { is-sound = s; size = omega arith }
-done-stays Full m c s f = record { is-sound = s; size = omega arith }
+done-size : (a : Step) (m : Machine) (c : ℕ) → length (pushed (doneBy a m c)) + machineAfter (doneBy a m c) .held ≤ m .held + 1
+done-size (Out g) m c = omega arith
+done-size (Hold t) m c = omega arith
+done-size Whole m c =
+    let e = m .escape in omega (arith, length-append (take (m .held) e) (c ∷ []), length-take (m .held) e)
+done-size NoColor m c = omega arith
+done-size Unrecognized m c = omega arith
+done-size Full m c = omega arith
 
 module _ (mode : Mode) where
+  step-size : (m : Machine) (error : List ℕ) (c : ℕ) →
+      length (pushed (writeStepOf mode m error c)) + machineAfter (writeStepOf mode m error c) .held ≤ m .held + 1
+  step-size m error c =
+      by (eqb c 0x1A)
+      (λ e. rw (eqb-true c 0x1A e, refused-stops mode m error) (omega arith))
+      (λ e. rw (step-asked mode m error c e _ refl) (done-size (askedIn (m .state) mode (m .held) c) m c))
+
   pub step-stays : (m : Machine) (error : List ℕ) (c : ℕ) → sound m ≡ true → Stays 1 m (writeStepOf mode m error c)
   step-stays m error c s =
-      by (eqb c 0x1A)
-      (λ e. rw (eqb-true c 0x1A e, refused-stops mode m error) (record { is-sound = s; size = omega arith }))
-      (λ e.
-      let a = askedIn (m .state) mode (m .held) c in
-      rw (step-asked mode m error c e a refl)
-      (done-stays a m c s (asked-fits (m .state) mode (m .held) c (both-true (leb (m .held) escapeLimit) (heldIn (m .state) (m .held)) s .1))))
+      record {
+        is-sound = holds-after (writeStepOf mode m error c) (step-sound mode m error c s);
+        size = step-size m error c;
+      }
 
   -- ---- a run
   pub steps-stay : (cs : List ℕ) (m : Machine) (error : List ℕ) → sound m ≡ true → Stays (length cs) m (stepsOf mode m error cs)
