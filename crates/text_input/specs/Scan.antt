@@ -68,7 +68,7 @@ abbrev pub written : TextInput → List ℕ → List ℕ → Outcome
 written next out queue = record { numbers = 0 ∷ length out ∷ []; next = next; places = sets queue 0 out }
 
 -- ---- a scan
--- a scan's, by the record's count, the page, the chunk and the number of places
+-- the number of its refusal, and 0 for none, by the record's count, the page, the chunk and the number of places
 abbrev pub scanRefusal : ℕ → List ℕ → List ℕ → ℕ → ℕ
 scanRefusal count p chunk room =
     refusalOf count (accepted p) (areChars chunk) (length chunk) (placesForChunk (length chunk)) room

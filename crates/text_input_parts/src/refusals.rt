@@ -12,7 +12,7 @@ pub const MAX_COUNT: usize = 4294967295;
 
 // The number by which a chunk of n characters is refused whatever the places, and 0 for none: by the record's count, whether the page
 // is accepted, and whether every value is a character. Total.
-fn chunk_refusal(count: u32, page: bool, chars: bool, n: usize) -> u32
+pub fn chunk_refusal(count: u32, page: bool, chars: bool, n: usize) -> u32
     ensures { λ r. ⌜ r ≡ chunkRefusal count page chars n ⌝ }
 {
     if !page {
@@ -27,7 +27,7 @@ fn chunk_refusal(count: u32, page: bool, chars: bool, n: usize) -> u32
 }
 
 // The number by which a call that needs so many places is refused, and 0 for none. Total.
-fn room_refusal(needed: usize, room: usize) -> u32
+pub fn room_refusal(needed: usize, room: usize) -> u32
     ensures { λ r. ⌜ r ≡ roomRefusal needed room ⌝ }
 {
     if room < needed { NO_ROOM } else { 0 }
