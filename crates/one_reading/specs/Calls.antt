@@ -8,8 +8,7 @@ use lib.Dec.{eqb}
 use lib.ListN.{length}
 use Rattle.text_input.specs.declared.Options.{Options}
 use Rattle.text_input.specs.declared.TextInput.{TextInput}
-use Rattle.common.specs.Answers.{wroteIn}
-use Rattle.text_input_parts.specs.Refusals.{roomRefusal}
+use Rattle.common.specs.Answers.{wroteIn, roomRefusal}
 use Rattle.text_input.specs.Scan.{Outcome, scanRefusal, scanOf, finishOf}
 use Rattle.text_input.specs.Streams.{withoutBomFirst}
 

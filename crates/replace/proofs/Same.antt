@@ -1,5 +1,4 @@
 -- A test that two answers of `replace` are the same, and its law.
-use Prim.Native.Nat.{ℕ}
 use mathlib.Core.Path.{_≡_}
 use mathlib.Core.Bool.{Bool, false, _&&_}
 use lib.Dec.{T, eqb, eqb→eq}

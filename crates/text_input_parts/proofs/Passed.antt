@@ -8,7 +8,8 @@ use native.Mathlib.Omega.{arith}
 use borrow.Author.Tests.{ltb-false, eqb-true, eqb-false}
 use lib.Dec.{eqb, ltb}
 use Rattle.common.proofs.Kit.{by}
-use Rattle.text_input_parts.specs.Refusals.{maxCount, chunkRefusal, roomRefusal, refusalOf}
+use Rattle.common.specs.Answers.{roomRefusal}
+use Rattle.text_input_parts.specs.Refusals.{maxCount, chunkRefusal, refusalOf}
 
 tests-passed : (a b d : Bool) → _≡_ {A = ℕ} (cond (not a) 2 (cond (not b) 1 (cond d 10 0))) 0 → (a ≡ true) × (b ≡ true) × (d ≡ false)
 tests-passed true true false h = (refl, refl, refl)

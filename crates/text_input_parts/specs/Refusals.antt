@@ -1,7 +1,8 @@
 -- The refusals of a scan. Document 01, "A chunk comes in" and "Refused ..".
 use Prim.Native.Nat.{ℕ, zero, suc, _+_, _*_}
 use mathlib.Core.Bool.{Bool, cond, not}
-use lib.Dec.{eqb, ltb}
+use lib.Dec.{ltb}
+use Rattle.common.specs.Answers.{thenRoom}
 
 -- "A chunk of n characters needs 3 × n + 1 free places, an empty one none."
 abbrev pub placesForChunk : ℕ → ℕ
@@ -17,12 +18,6 @@ maxCount = 4294967295
 unfoldable pub chunkRefusal : ℕ → Bool → Bool → ℕ → ℕ
 chunkRefusal count page chars n = cond (not page) 2 (cond (not chars) 1 (cond (ltb maxCount (count + n)) 10 0))
 
--- By the places that are needed and those that are lent: "8 too few free places."; so "a scan saying 8 with places free (demand 2, the
--- refusal conditions)" does not pass.
-abbrev pub roomRefusal : ℕ → ℕ → ℕ
-roomRefusal needed room = cond (ltb room needed) 8 0
-
 -- "Order: 2, 1, 10, 8."
 unfoldable pub refusalOf : ℕ → Bool → Bool → ℕ → ℕ → ℕ → ℕ
-refusalOf count page chars n needed room =
-    cond (eqb (chunkRefusal count page chars n) 0) (roomRefusal needed room) (chunkRefusal count page chars n)
+refusalOf count page chars n needed room = thenRoom (chunkRefusal count page chars n) needed room

@@ -5,7 +5,8 @@ use common::NOT_A_CHAR;
 use common::WRONG_PAGE;
 ghost use mathlib.Core.Path.{_≡_};
 ghost use Prim.Native.Nat.{_≤_};
-ghost use Rattle.text_input_parts.specs.Refusals.{maxCount, placesForChunk, chunkRefusal, roomRefusal, refusalOf};
+ghost use Rattle.common.specs.Answers.{roomRefusal};
+ghost use Rattle.text_input_parts.specs.Refusals.{maxCount, placesForChunk, chunkRefusal, refusalOf};
 
 // The most characters that a record's count holds.
 pub const MAX_COUNT: usize = 4294967295;

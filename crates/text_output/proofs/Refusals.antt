@@ -23,7 +23,8 @@ use Rattle.text_output.specs.declared.State.the-variants.{Ground, Esc, C
 use Rattle.text_output.specs.declared.TextOutput.{TextOutput}
 use Rattle.text_output.specs.Writer.{Given, Machine, machineOf, writerWith, sound, refusedBy, abandonedBy}
 use Rattle.text_output.specs.Step.{Stepped, goes, stops}
-use Rattle.text_output.specs.Write.{runIn, endedBy, writtenBy, inputRefusal, thenRoom, writeRefusal, refusedWrite, unlessRefused, charsRefusal, writeStrRefusal, writeStrOf, bytesRefusal, writeBytesRefusal, writeOf}
+use Rattle.common.specs.Answers.{thenRoom}
+use Rattle.text_output.specs.Write.{runIn, endedBy, writtenBy, inputRefusal, writeRefusal, refusedWrite, unlessRefused, charsRefusal, writeStrRefusal, writeStrOf, bytesRefusal, writeBytesRefusal, writeOf}
 use Rattle.text_output.specs.Close.{expecting, flushIn, flushOf, closeIn, closeOf}
 use Rattle.text_output.specs.Refusals.{Call, write, flush, close, refusalIn, filledIn, oneOf, isClose, isQuiet, isOther, isSparing, Leaves, SecondCloses}
 use Rattle.text_output.proofs.Steps.{StepRefusal, four, six, Holds, mode-refuses}

@@ -6,6 +6,7 @@ use mathlib.Core.List.{List, [], _∷_, map}
 use lib.Dec.{eqb, ltb}
 use lib.ListN.{length, getD}
 use lib.Seq.{sets}
+use Rattle.common.specs.Answers.{thenRoom}
 use Rattle.unicode.specs.Chars.{areChars}
 use Rattle.unicode.specs.Utf8.{encodeAll, charsOf}
 use Rattle.page.specs.Page.{accepted}
@@ -95,10 +96,6 @@ writtenBy w p chars places = endedBy p w (runIn (w .mode) p (machineOf w) chars)
 -- by record, page and values: the number, and 0 where none refuses. `values` is the number by which the values refuse, or 0
 abbrev pub inputRefusal : TextOutput → List ℕ → ℕ → ℕ
 inputRefusal w p values = cond (not (sound (machineOf w))) 9 (cond (not (accepted p)) 2 values)
-
--- and then 8: so many places are needed, and so many are lent
-abbrev pub thenRoom : ℕ → ℕ → ℕ → ℕ
-thenRoom n need room = cond (eqb n 0) (cond (ltb room need) 8 0) n
 
 -- "A write of n characters needs kept + held + 3 × n places."
 abbrev pub placesForWrite : TextOutput → ℕ → ℕ

@@ -1,5 +1,5 @@
 -- The writer's record and what steps change of it, what its calls answer, and the after-newline state. Document 01, "Characters go
--- out" and "Refused ..". Assumes nothing.
+-- out" and "Refused ..".
 use Prim.Native.Nat.{ℕ}
 use mathlib.Core.Bool.{Bool, true, false, _&&_}
 use mathlib.Core.List.{List, [], _∷_}

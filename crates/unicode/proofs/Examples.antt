@@ -4,7 +4,6 @@ use mathlib.Core.Path.{_≡_, refl, sym}
 use mathlib.Core.Bool.{true}
 use mathlib.Core.List.{List, [], _∷_}
 use native.Mathlib.Omega.{arith}
-use lib.ListN.{length}
 use Rattle.unicode.specs.declared.utf8.Utf8Step.the-variants.{Stop}
 use Rattle.unicode.specs.Chars.{isChar, areChars}
 use Rattle.unicode.specs.Utf8.{encodeOf, encodeAll, continuation, utf8StepOf, charsOf}

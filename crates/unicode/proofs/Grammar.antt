@@ -1,7 +1,7 @@
 -- The sequences of RFC 3629's grammar are the encodings of the characters.
 -- Each rule of the grammar gives the value of its bits, which is a character of that row; each row of the table falls
 -- into the rules by the value's bounds.
-use Prim.Native.Nat.{ℕ, _+_, _-_, _*_, _/_, _%_, _≤_, _<_}
+use Prim.Native.Nat.{ℕ, _+_, _-_, _*_, _≤_, _<_}
 use mathlib.Core.Path.{_≡_, sym, _∙_}
 use mathlib.Core.Bool.{true}
 use mathlib.Core.Logic.{_↔_}

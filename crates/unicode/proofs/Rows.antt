@@ -9,13 +9,13 @@
 --     encode-done, -full, -no    the answer and the bytes of `encode_utf8`, by its three cases
 --     encoded-back           an answer read back from its numbers
 use Prim.Native.Nat.{ℕ, _+_, _/_, _%_, _≤_, _<_}
-use mathlib.Core.Path.{_≡_, refl, sym, ap, _∙_}
+use mathlib.Core.Path.{_≡_, refl}
 use mathlib.Core.Bool.{true, false}
-use mathlib.Core.List.{List, [], _∷_, _++_}
+use mathlib.Core.List.{List, [], _∷_}
 use native.Mathlib.Omega.{arith}
 use borrow.Author.Tests.{lt-ltb, le-ltb, le-leb, lt-leb}
 use lib.ListN.{length}
-use lib.Seq.{sets, sets-eq}
+use lib.Seq.{sets}
 use Rattle.unicode.specs.Chars.{isChar}
 use Rattle.unicode.specs.Utf8.{encodeOf, encodedNumbers, encodeAnswer, encodeBytes}
 use Rattle.unicode.specs.declared.utf8.Encoded.{Encoded}

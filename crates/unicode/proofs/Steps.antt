@@ -5,10 +5,10 @@
 --     step-stops      it stops exactly where nothing stands
 --     past-step, lead-step    the code's tests come to the step
 use Prim.Native.Nat.{ℕ, zero, suc, _+_, _-_, _*_, _/_, _%_, _≤_, _<_}
-use mathlib.Core.Path.{_≡_, refl, sym, ap, _∙_}
-use mathlib.Core.Bool.{Bool, true, false, cond, _&&_}
+use mathlib.Core.Path.{_≡_, refl, sym, _∙_}
+use mathlib.Core.Bool.{Bool, true, cond, _&&_}
 use mathlib.Core.Logic.{_↔_}
-use mathlib.Core.List.{List, [], _∷_, _++_}
+use mathlib.Core.List.{List, [], _∷_}
 use native.Mathlib.Omega.{arith}
 use native.Mathlib.Nat.{add-zero, le-of-suc-le-suc, not-suc-le-zero}
 use native.Mathlib.Numerals.{add-one}
@@ -24,7 +24,7 @@ use Rattle.unicode.specs.Chars.{isChar}
 use Rattle.unicode.specs.Utf8.{encodeOf, continuation, begins, Stands, stepBelow, utf8StepOf}
 use Rattle.unicode.specs.Inner.{moreOf, onBits, keptOf, twoOf, threeOf, fourOf}
 use Rattle.common.proofs.Kit.{never, by, by-lt, split, both-true, both}
-use Rattle.unicode.proofs.Rows.{char-lt, char-low, row1, row2, row3, row4, by-row, length-encode}
+use Rattle.unicode.proofs.Rows.{char-lt, char-low, row1, row2, row3, row4, length-encode}
 
 -- ---- bytes with which a list begins
 pub begins-long : (ws bs : List ℕ) → begins ws bs ≡ true → length ws ≤ length bs

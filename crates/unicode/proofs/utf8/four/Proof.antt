@@ -1,5 +1,5 @@
 -- `unicode::utf8::four` meets its contract: what `more` and `kept` ensure, put together. The bits grow by six at each byte.
-use mathlib.Core.Path.{_≡_, sym, _∙_}
+use mathlib.Core.Path.{sym, _∙_}
 use native.Mathlib.Omega.{arith}
 use borrow.Author.Needs.{needs}
 use Rattle.unicode.proofs.Steps.{more-is}

@@ -1,5 +1,4 @@
 -- `unicode::utf8::len_utf8` meets its contract: its tests are the rows of the table.
-use native.Mathlib.Omega.{arith}
 use Rattle.unicode.proofs.Rows.{row1, row2, row3, row4}
 use Rattle.unicode.proofs.utf8.len_utf8.Statement.{statement}
 use Rattle.unicode.proofs.utf8.len_utf8.Tie as tie

@@ -1,5 +1,4 @@
 -- `unicode::utf8_step` meets its contract: its tests are those of `leadOf`, which comes to the step.
-use native.Mathlib.Omega.{arith}
 use borrow.Author.Needs.{needs}
 use Rattle.common.proofs.Kit.{tests}
 use Rattle.unicode.proofs.Steps.{past-step, lead-step}
