@@ -1,5 +1,5 @@
 #!/usr/bin/env python3
-"""Holds the tree to document 01, sentence by sentence, and to those requests of document 02 that docs/REQUESTS.md has (`## A.n`).
+"""Holds the tree to document 01, sentence by sentence, and to those requests of document 02 that docs/REQUESTS.md, where there is one, has (`## A.n`).
 
     tools/check_documents.py        says what is wrong, or counts what it read
     tools/check_documents.py map    prints each sentence with the items that quote it and the wrong programs that break it
@@ -211,6 +211,10 @@ def check_programs(lines):
     return len(paths)
 
 
+# how a name is defined: a function or a type of the code, an item of specs/ or proofs/
+DEFINED = (r"\b(?:fn|const|struct|enum) %s\b", r"^\s*(?:(?:abbrev|unfoldable|pub|record|data|ruleset)\s+)*(?:[\w-]+ )*?%s(?: [\w-]+)*(?=\s*[:({=])")
+
+
 def check_names():
     """The names that docs/PROOFS.md cites; how many."""
     count = 0
@@ -220,7 +224,7 @@ def check_names():
         found = "\n".join(read(p) for place in places for p in glob.glob(os.path.join(CRATES, crate, place), recursive=True))
         for name in re.findall(r"[\w-]+(?=`)", names):
             count += 1
-            if not re.search(rf"(?<![\w-]){re.escape(name)}(?![\w-])", found):
+            if not re.search(DEFINED[bool(file)] % re.escape(name), found, re.M):
                 wrong.append(f"docs/PROOFS.md: no {name} in {crate}{', ' + file if file else ''}")
     return count
 

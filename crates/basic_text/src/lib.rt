@@ -159,7 +159,8 @@ fn scan(r: TextInput, page: &[u32], options: Options, chunk: &[u8], queue: &mut 
 
 // "'exported on numbers and byte slices for the Rust harness': extern 'C' scan, finish and byte write over numbers and byte slices,
 // called by the differential tests."
-// A chunk comes in. Page, chunk and queue are lent as bytes; the cleaned characters go to the queue's first places.
+// A chunk comes in. Page, chunk and queue are lent as bytes; the cleaned characters go to the queue's first places. Total: refuses as
+// `TextInput::scan`.
 #[no_mangle]
 pub extern "C" fn basic_text_scan(
     record: Record,
@@ -215,7 +216,8 @@ fn finish(r: TextInput, eof: bool, queue: &mut [u8]) -> Scanned
     }
 }
 
-// The stream is pushed, or it ends. The queue is lent as bytes; what is pending goes to its first places, with what ends a text.
+// The stream is pushed, or it ends. The queue is lent as bytes; what is pending goes to its first places, with what ends a text. Total:
+// refuses as `TextInput::finish`.
 #[no_mangle]
 pub extern "C" fn basic_text_finish(record: Record, eof: u32, queue: &mut [u8]) -> Reply
     ensures reply { λ r. ⌜ r ≡ replyOf (finishOf (recordOf «record») (flag eof) (numbersOf (now (queue .entry)))) ⌝ }
@@ -230,7 +232,7 @@ pub extern "C" fn basic_text_finish(record: Record, eof: u32, queue: &mut [u8]) 
 }
 
 // Bytes are written. Page, bytes and queue are lent as bytes; the kept characters stand in the queue's first places, those of the write
-// go behind them, and the first places are handed out.
+// go behind them, and the first places are handed out. Total: refuses as `text_output_write::write`.
 #[no_mangle]
 pub extern "C" fn basic_text_write(
     writer: Writer,

@@ -8,6 +8,7 @@ use basic_text_numbers::mode_of;
 use basic_text_numbers::writer_state_number;
 use basic_text_numbers::writer_state_of;
 use check_char::reason_of;
+use common::UNWRITABLE;
 use text_output::TextOutput;
 use text_output::WrittenBytes;
 use text_output::Wrote;
@@ -78,7 +79,7 @@ pub fn write_reply_of(w: WrittenBytes) -> WriteReply
         }
         Wrote::Unwritable(e) => {
             let why = reason_of(e);
-            r.refused = 4;
+            r.refused = UNWRITABLE;
             r.abandon = 1;
             r.reason = why.number;
             r.character = why.character;

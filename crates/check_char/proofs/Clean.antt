@@ -2,7 +2,8 @@
 -- and the law that carries it to every number.
 --     replaced-clean        what replaces a character but ESC is accepted by the check, or is 2126, 212A, 212B or a CJK compatibility
 --                           ideograph that the check lists; and is no ESC
---     replaced-chars        what replaces a character are characters, one to three
+--     replaced-chars        what replaces a character are characters
+--     replaced-length       one to three
 --     self-newline ..       0A, 20, 34F and ESC are their own replacement
 --     accepted-newline ..   0A, 20, 34F and ESC are accepted; 1A is refused, as a control code
 --     ohm-names-itself      reason 16 for 2126 names 2126 itself

@@ -5,7 +5,8 @@
 --     both-true     the parts of an `&&` that holds
 --     both          the other way
 --     or-cases      an `||` that holds, by its parts
---     tests         `search tests` closes a return of an `if` chain whose definition is a chain of `cond` over the same tests
+--     tests         `search tests` closes a return of an `if` chain whose definition is a chain of `cond` over the same tests;
+--                   `yes`, `no`, `yes-by` and `no-by` are its rules
 use Prim.Native.Nat.{ℕ, _≤_, _<_}
 use mathlib.Core.Path.{_≡_, refl, sym, _∙_}
 use mathlib.Core.Bool.{Bool, true, false, cond, _&&_, _||_}

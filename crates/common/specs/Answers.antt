@@ -1,4 +1,4 @@
--- What scan, finish and isolation answer, by document 01's numbers; and the refusal that every call with places has last.
+-- What scan, finish and isolation answer, by document 01's numbers; and the refusal by the places lent.
 use Prim.Native.Nat.{ℕ}
 use mathlib.Core.Bool.{cond}
 use mathlib.Core.List.{List, [], _∷_}
@@ -30,6 +30,6 @@ wroteIn ns places = take (writtenIn ns) places
 abbrev pub roomRefusal : ℕ → ℕ → ℕ
 roomRefusal needed room = cond (ltb room needed) 8 0
 
--- the same behind other refusals, by their number: 8 comes last
+-- the same behind other refusals, by their number: 8 comes after them
 abbrev pub thenRoom : ℕ → ℕ → ℕ → ℕ
 thenRoom before needed room = cond (eqb before 0) (roomRefusal needed room) before

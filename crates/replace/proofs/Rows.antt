@@ -179,22 +179,6 @@ module _ {c : ℕ} where
   free-at [] ps n i = i
   free-at (ks ∷ kss) ps n i = free-at kss (without ks ps) (n .0) (without-at ks ps (λ t. n .1 (hit ks c t)) i)
 
--- ---- two lists of numbers are the same
-abbrev pub eqL : List ℕ → List ℕ → Bool
-eqL [] [] = true
-eqL [] (y ∷ ys) = false
-eqL (x ∷ xs) [] = false
-eqL (x ∷ xs) (y ∷ ys) = eqb x y && eqL xs ys
-
-pub eqL→eq : (xs ys : List ℕ) → T (eqL xs ys) → xs ≡ ys
-eqL→eq [] [] t = refl
-eqL→eq [] (y ∷ ys) t = absurd t
-eqL→eq (x ∷ xs) [] t = absurd t
-eqL→eq (x ∷ xs) (y ∷ ys) t =
-    let p : x ≡ y = eqb→eq x y (and-l (eqb x y) (eqL xs ys) t) in
-    let q : xs ≡ ys = eqL→eq xs ys (and-r (eqb x y) (eqL xs ys) t) in
-    cc
-
 -- where every piece finds the answer a, by a test of equality
 module _ {A : Type 0} (same : A → A → Bool) (sound : (a b : A) → T (same a b) → a ≡ b) where
   abbrev pub only : A → List (Row A) → List Piece → Bool

@@ -1,6 +1,8 @@
 // The operations on one character: `L replace`, `L check`, `L start` and `L end`.
 use crate::reason;
 use check_char::BasicTextError;
+use common::NOT_A_CHAR;
+use common::UNWRITABLE;
 use replace::Replaced;
 use replay_words::answer;
 use replay_words::front;
@@ -28,7 +30,7 @@ pub fn replacement(c: u32, out: &mut [u8], at: usize) -> usize {
 
 // `no 4` with the reason.
 fn refused(e: BasicTextError, out: &mut [u8], at: usize) -> usize {
-    let mut end = answer::refusal(out, at, 4);
+    let mut end = answer::refusal(out, at, UNWRITABLE);
     end = reason::told(out, end, e);
     answer::byte(out, end, b'\n')
 }
@@ -38,7 +40,7 @@ pub fn check(c: u32, out: &mut [u8], at: usize) -> usize {
     let found = check_char::check(c);
     match found {
         check_char::Answer::Accepted => answer::text(out, at, b"ok\n"),
-        check_char::Answer::NotAChar => answer::no(out, at, 1),
+        check_char::Answer::NotAChar => answer::no(out, at, NOT_A_CHAR),
         check_char::Answer::Refused(e) => refused(e, out, at),
     }
 }

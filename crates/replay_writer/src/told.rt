@@ -1,5 +1,6 @@
 // What the calls on a writer answered, without the record.
 use check_char::BasicTextError;
+use common::UNWRITABLE;
 use replay_words::answer;
 use replay_words::front;
 use text_output::Answer;
@@ -19,7 +20,7 @@ fn abandon(n: u32, out: &mut [u8], at: usize) -> usize {
 
 // `no 4` with the reason, and ` abandon`
 fn unwritable(e: BasicTextError, out: &mut [u8], at: usize) -> usize {
-    let mut end = answer::refusal(out, at, 4);
+    let mut end = answer::refusal(out, at, UNWRITABLE);
     end = replay_leaves::told(out, end, e);
     answer::text(out, end, b" abandon")
 }

@@ -167,7 +167,7 @@ module _ (p : List ℕ) (o : Options) (eof start : Bool) (count : ℕ) where
       (λ h. leave-after cr true d n c 0x0A t ∙ sym (leave-after cr true e n c 0x0A t))
       )
 
-  -- a line end is pending: a start is no longer expected
+  -- a line end is pending: no start is expected from here on
   cr-expect : (t : List ℕ) (d e : Bool) (n : ℕ) → complete t (at Cr d n) ≡ complete t (at Cr e n)
   cr-expect [] d e n = unfold complete in refl
   cr-expect (c ∷ t) d e n = complete-inside cr d n c t ∙ cr-leave c t d e n ∙ sym (complete-inside cr e n c t)

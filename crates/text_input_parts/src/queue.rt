@@ -149,6 +149,7 @@ fn put_image(queue: &mut [u32], at: usize, image: Image) -> usize
     }
 }
 
+// A lead and an image, one after the other, from a place on. Inner: asks for room.
 pub fn put(queue: &mut [u32], at: usize, lead: Lead, image: Image) -> usize
     requires { ⌜ at + length (leadChars lead ++ imageChars image) ≤ length (now queue) ⌝ }
     ensures { λ r. ⌜ r ≡ at + length (leadChars lead ++ imageChars image) ⌝ }
@@ -158,7 +159,7 @@ pub fn put(queue: &mut [u32], at: usize, lead: Lead, image: Image) -> usize
     put_image(queue, after, image)
 }
 
-// Three leads, one after the other, from the first place on.
+// Three leads, one after the other, from the first place on. Inner: asks for room.
 pub fn put_three(queue: &mut [u32], a: Lead, b: Lead, c: Lead) -> usize
     requires { ⌜ length (leadChars a ++ (leadChars b ++ leadChars c)) ≤ length (now queue) ⌝ }
     ensures { λ r. ⌜ r ≡ length (leadChars a ++ (leadChars b ++ leadChars c)) ⌝ }
