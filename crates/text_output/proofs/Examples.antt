@@ -292,8 +292,22 @@ table =
     ∷ record {
       mode = Color;
       page = 0 ∷ 1 ∷ 0 ∷ 0x377 ∷ [];
-      acts = write 200 (0x1B ∷ 0x7F ∷ []) ∷ [];
-      expected = told (4 ∷ 15 ∷ []) (1 ∷ 0 ∷ 1 ∷ 0 ∷ []) [] ∷ [];
+      acts = write 200 (0x1B ∷ 0x7F ∷ []) ∷ write 200 (0x1B ∷ 0x5B ∷ 0x7F ∷ []) ∷ [];
+      expected =
+          told (4 ∷ 15 ∷ []) (1 ∷ 0 ∷ 1 ∷ 0 ∷ []) [] ∷
+          told (4 ∷ 15 ∷ []) (1 ∷ 0 ∷ 1 ∷ 0 ∷ []) [] ∷
+          [];
+    }
+    -- after ESC only `[` goes on: `m` and `A`, which end no escape here, give reason 15
+    ∷ record {
+      mode = Color;
+      page = 0 ∷ 1 ∷ 0 ∷ 0x377 ∷ [];
+      acts = write 200 (0x61 ∷ 0x1B ∷ []) ∷ write 200 (0x6D ∷ []) ∷ write 200 (0x1B ∷ 0x41 ∷ []) ∷ [];
+      expected =
+          told (0 ∷ 1 ∷ []) (0 ∷ 3 ∷ 0 ∷ 1 ∷ []) (0x61 ∷ []) ∷
+          told (4 ∷ 15 ∷ []) (1 ∷ 0 ∷ 0 ∷ 0 ∷ []) [] ∷
+          told (4 ∷ 15 ∷ []) (1 ∷ 0 ∷ 0 ∷ 0 ∷ []) [] ∷
+          [];
     }
     -- color: an escape of 64 characters goes out
     ∷ record {
