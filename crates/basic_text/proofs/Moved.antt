@@ -19,8 +19,8 @@ use borrow.Author.Tests.{leb-true}
 use Rattle.common.proofs.Kit.{both-true}
 use Rattle.common.proofs.Lists.{drop-sets, take-first}
 use Rattle.isolate_unassigned.specs.declared.IsolateUnassigned.{IsolateUnassigned}
-use Rattle.isolate_unassigned.specs.Isolate.{lastOwed}
-use Rattle.isolate_unassigned.proofs.Laws.{lastOwed-size}
+use Rattle.isolate_unassigned.specs.Inner.{lastOwed}
+use Rattle.isolate_unassigned.proofs.Means.{lastOwed-size}
 use Rattle.text_output.specs.declared.Mode.{Mode}
 use Rattle.text_output_write.specs.declared.store.Place.{Place}
 use Rattle.text_output_write.specs.declared.store.Pushed.{Pushed}

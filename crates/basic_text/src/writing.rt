@@ -28,7 +28,7 @@ ghost use lib.ListN.{length, getD, take};
 ghost use lib.Seq.{sets};
 ghost use Rattle.unicode.specs.Utf8.{charsOf};
 ghost use Rattle.page.specs.Page.{accepted};
-ghost use Rattle.isolate_unassigned.specs.Isolate.{lastOwed};
+ghost use Rattle.isolate_unassigned.specs.Inner.{lastOwed};
 ghost use Rattle.text_output.specs.Writer.{sound, bytesOutcome};
 ghost use Rattle.text_output.specs.Step.{stepsOf};
 ghost use Rattle.text_output.specs.Write.{runIn, writeOf};

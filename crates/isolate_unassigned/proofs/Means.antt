@@ -1,16 +1,22 @@
--- The steps give what document 01 says. At each place the record says of the characters before it what the document asks: `need_cgj`
+-- The Rust's steps give what document 01 says. At each place the record says of the characters before it what the document asks: `need_cgj`
 -- that the nearest one got 34F before it, and `have_cgj` that it is 34F. 34F is assigned, so both never hold.
---     isolate-means    by an accepted page, `isolateOf` is `isolated`
-use Prim.Native.Nat.{ℕ}
+--     isolate-means                   by an accepted page, the steps from a new record on give `isolated`
+--     givesOut-size, lastOwed-size    a step gives at most two, and the end one
+use Prim.Native.Nat.{ℕ, _≤_}
 use mathlib.Core.Path.{_≡_, refl, sym, ap}
 use mathlib.Core.Bool.{Bool, true, false, not, _&&_, _||_}
 use mathlib.Core.List.{List, [], _∷_}
+use native.Mathlib.Omega.{arith}
 use lib.Dec.{eqb}
+use lib.ListN.{length}
 use borrow.Author.Tests.{eqb-true}
-use Rattle.common.proofs.Kit.{never, by}
+use Rattle.common.proofs.Kit.{never, by, split}
 use Rattle.page.specs.Page.{accepted}
-use Rattle.isolate_unassigned.specs.Isolate.{toIsolate, isolatorOf, isolateStepOf, isolatedFrom, isolateOf}
-use Rattle.isolate_unassigned.specs.Meaning.{there, gotBefore, getsAfter, isolatedAfter, isolated}
+use Rattle.isolate_unassigned.specs.declared.IsolateUnassigned.{IsolateUnassigned}
+use Rattle.isolate_unassigned.specs.declared.Isolated.{Isolated}
+use Rattle.isolate_unassigned.specs.declared.Isolated.the-variants.{One, Two}
+use Rattle.isolate_unassigned.specs.Meaning.{toIsolate, there, gotBefore, getsAfter, isolatedAfter, isolated}
+use Rattle.isolate_unassigned.specs.Inner.{isolatorOf, fresh, isolateStepOf, givesOut, lastOwed, isolatedFrom}
 use Rattle.isolate_unassigned.proofs.Laws.{joiner-assigned}
 
 -- the record after a step that puts 34F before a character is the one that the characters then say. n: the neighbour got 34F before it;
@@ -47,6 +53,14 @@ module _ (p : List ℕ) (a : toIsolate p 0x34F ≡ false) where
       (λ e. rw (e, ← not-put-before _ _ e) (ap (λ (l : List ℕ). c ∷ l) (means cs (c ∷ before))))
 
 -- so "an isolator that does nothing" does not pass, nor "putting 34F after each unassigned character"
-pub isolate-means : (p cs : List ℕ) → accepted p ≡ true → isolateOf p cs ≡ isolated p cs
-unfolding isolateOf
+pub isolate-means : (p cs : List ℕ) → accepted p ≡ true → isolatedFrom p fresh cs ≡ isolated p cs
+unfolding isolated
 isolate-means p cs a = means p (joiner-assigned p a) cs []
+
+-- ---- the size of a step
+pub givesOut-size : (s : Isolated) → length (givesOut s) ≤ 2
+givesOut-size (One c next) = omega arith
+givesOut-size (Two j c next) = omega arith
+
+pub lastOwed-size : (r : IsolateUnassigned) → length (lastOwed r) ≤ 1
+lastOwed-size r = split (λ (l : List ℕ). length l ≤ 1) (r .«need_cgj») (λ e. omega arith) (λ e. omega arith)

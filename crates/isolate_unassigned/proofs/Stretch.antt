@@ -25,8 +25,8 @@ use Rattle.stretch.proofs.Parts.{cut, part-length, part-at, part-one}
 use Rattle.isolate_unassigned.specs.declared.IsolateUnassigned.{IsolateUnassigned}
 use Rattle.isolate_unassigned.specs.declared.Isolated.{Isolated}
 use Rattle.isolate_unassigned.specs.declared.Isolated.the-variants.{One}
-use Rattle.isolate_unassigned.specs.Isolate.{toIsolate, isolatorOf, isolateStepOf, givesOut, after, isolatedFrom}
-use Rattle.isolate_unassigned.specs.Inner.{gives, leads, Moves}
+use Rattle.isolate_unassigned.specs.Meaning.{toIsolate}
+use Rattle.isolate_unassigned.specs.Inner.{isolatorOf, isolateStepOf, givesOut, after, isolatedFrom, gives, leads, Moves}
 
 module _ (p : List ℕ) (base near : Range) (a : Assigned p base) (b : Assigned p near) (c : ℕ) where
   pub either-assigned : inSought (eitherOf base near) c ≡ true → assigned p c ≡ true

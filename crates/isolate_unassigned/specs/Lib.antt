@@ -1,5 +1,5 @@
--- What a reader must believe of this crate: the step, the run and the entry as the Rust has them; and document 01's words on them.
--- `Inner` serves the private functions alone: no entry's contract cites it.
-pub mod Isolate
+-- What a reader must believe of this crate: what a run isolates to, in document 01's words; and the entry.
+-- `Inner` has the Rust's step by its two flags, and serves inner functions alone: no entry's contract cites it.
 pub mod Meaning
+pub mod Isolate
 pub mod Inner

@@ -1,11 +1,16 @@
--- Isolation in the words of document 01, "Leaves", first item, and the relation by which a run goes into its result. Nothing here
--- is taken from the step of specs/Isolate.antt.
--- A place of a run is known by the characters before it, the nearest first.
+-- Isolation in the words of document 01, "Leaves", first item, and the relation by which a run goes into its result. 34F is CGJ.
+-- A place of a run is known by the characters before it, the nearest first. Nothing here is taken from the step of the Rust, which is
+-- in specs/Inner.antt.
 use mathlib.Core.Bool.{Bool, true, false, not, cond, _&&_, _||_}
 use mathlib.Core.List.{List, [], _∷_, _++_}
 use Prim.Native.Nat.{ℕ}
 use lib.Dec.{eqb}
-use Rattle.isolate_unassigned.specs.Isolate.{toIsolate}
+use Rattle.page.specs.Page.{assigned}
+use Rattle.text_utils.specs.Classes.{isPrivateUse}
+
+-- "`IsolateUnassigned`: an unassigned character outside private use"
+unfoldable pub toIsolate : List ℕ → ℕ → Bool
+toIsolate p c = not (assigned p c || isPrivateUse c)
 
 -- "one is there": the nearest character of the run is 34F
 abbrev pub there : List ℕ → Bool
@@ -33,8 +38,8 @@ isolatedAfter p before [] = joiner (gotBefore p before)
 isolatedAfter p before (c ∷ cs) =
     joiner (getsAfter p before c || gotBefore p (c ∷ before)) ++ c ∷ isolatedAfter p (c ∷ before) cs
 
--- a run, isolated
-abbrev pub isolated : List ℕ → List ℕ → List ℕ
+-- the run cs, isolated by the page p
+unfoldable pub isolated : List ℕ → List ℕ → List ℕ
 isolated p cs = isolatedAfter p [] cs
 
 -- ds is the run cs with 34F put in here and there: nothing is taken away, changed or moved

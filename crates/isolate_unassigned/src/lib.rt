@@ -27,8 +27,9 @@ ghost use lib.Seq.{sets};
 ghost use Rattle.common.specs.Answers.{writtenNumbers};
 ghost use Rattle.page.specs.Page.{accepted, assigned};
 ghost use Rattle.page.specs.Inner.{Assigned};
-ghost use Rattle.isolate_unassigned.specs.Isolate.{toIsolate, fresh, isolateStepOf, givesOut, after, isolatedFrom, placesForRun, isolateOf, isolateAnswer, isolatePlaces};
-ghost use Rattle.isolate_unassigned.specs.Inner.{Nearer, Moves};
+ghost use Rattle.isolate_unassigned.specs.Meaning.{toIsolate, isolated};
+ghost use Rattle.isolate_unassigned.specs.Isolate.{placesForRun, isolateAnswer, isolatePlaces};
+ghost use Rattle.isolate_unassigned.specs.Inner.{fresh, isolateStepOf, givesOut, after, isolatedFrom, Nearer, Moves};
 
 // Puts 34F around unassigned characters.
 pub struct IsolateUnassigned {
@@ -39,6 +40,7 @@ pub struct IsolateUnassigned {
 }
 
 // What a step gives out, and the record after: the character alone, or 34F and the character.
+// "The iterator chain with `Rc<RefCell>`: records by value whose step answers an enum."
 pub enum Isolated {
     One(u32, IsolateUnassigned),
     Two(u32, u32, IsolateUnassigned),
@@ -237,9 +239,9 @@ impl IsolateUnassigned {
 // What is left of the run, from the record r on, goes to the places from k on.
 pub fn isolate_run(page: &[u32], chars: &[u32], out: &mut [u32]) -> usize
     requires { ⌜ accepted (now page) ≡ true ⌝ }
-    requires { ⌜ length (isolateOf (now page) (now chars)) ≤ length (now out) ⌝ }
-    ensures { λ r. ⌜ r ≡ length (isolateOf (now (page .entry)) (now (chars .entry))) ⌝ }
-    ensures { λ r. ⌜ now (out .exit) ≡ sets (now (out .entry)) 0 (isolateOf (now (page .entry)) (now (chars .entry))) ⌝ }
+    requires { ⌜ length (isolated (now page) (now chars)) ≤ length (now out) ⌝ }
+    ensures { λ r. ⌜ r ≡ length (isolated (now (page .entry)) (now (chars .entry))) ⌝ }
+    ensures { λ r. ⌜ now (out .exit) ≡ sets (now (out .entry)) 0 (isolated (now (page .entry)) (now (chars .entry))) ⌝ }
 {
     let base = assigned_range(page, 0xa);
     let mut near = base;

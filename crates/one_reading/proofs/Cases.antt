@@ -7,7 +7,7 @@ use Rattle.ranges.specs.Ranges.{member, rises}
 use Rattle.page.specs.Page.{sized, rising, nonstarter, assigned, accepted}
 use Rattle.text_utils.specs.Classes.{starter, graphemeExtendNotCgj, spacingMarkPlus, basicTextStart, basicTextEnd, isPrivateUse}
 use Rattle.replace.specs.Replace.{replaceOf}
-use Rattle.isolate_unassigned.specs.Isolate.{toIsolate, isolateStepOf as isolateStep, isolateOf}
+use Rattle.isolate_unassigned.specs.Meaning.{toIsolate, isolated}
 use Rattle.text_input_parts.specs.Sets.{final, stringEnd, upTo7F, newlineChar}
 use Rattle.text_input.specs.Sets.{optionalLine}
 use Rattle.text_input.specs.Step.{leaveOf, meetOf, scanStepOf}
@@ -19,6 +19,6 @@ use Rattle.one_reading.specs.Cases.{Row, table, computed}
 -- are proved in a shared table by one theorem about the definitions."
 pub cases : map computed table ≡ map (λ (row : Row). row .expected) table
 unfolding table scanOf chunkRefusal refusalOf finishOf scanStepOf leaveOf meetOf final stringEnd upTo7F newlineChar optionalLine replaceOf isChar
-    basicTextStart basicTextEnd starter graphemeExtendNotCgj spacingMarkPlus isPrivateUse toIsolate isolateStep isolateOf
+    basicTextStart basicTextEnd starter graphemeExtendNotCgj spacingMarkPlus isPrivateUse toIsolate isolated
     accepted sized rising nonstarter assigned member rises
 cases = refl

@@ -12,7 +12,7 @@ use lib.ListN.{length}
 use Rattle.unicode.specs.Chars.{areChars}
 use Rattle.page.specs.Page.{accepted}
 use Rattle.check_char.specs.Check.{clean, all}
-use Rattle.isolate_unassigned.specs.Isolate.{isolateOf}
+use Rattle.isolate_unassigned.specs.Meaning.{isolated}
 use Rattle.text_input.specs.declared.Options.{Options}
 use Rattle.text_input.specs.Scan.{Outcome, fresh}
 use Rattle.text_input.specs.Pieces.{Piece, Reading, cleaned}
@@ -70,7 +70,7 @@ module _ (page : List ℕ) (good : accepted page ≡ true) (options : Options) (
     queue-writable : all writable queue ≡ true
     queue-writable = writable-of queue queue-clean none
 
-    passes-is : PassesIn Plain page queue (isolateOf page queue)
+    passes-is : PassesIn Plain page queue (isolated page queue)
     passes-is = passes-plain page good queue queue-chars queue-writable queue-starts queue-ends
 
     others : Others page queue

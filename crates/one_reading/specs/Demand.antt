@@ -8,7 +8,7 @@ use lib.ListN.{length}
 use Rattle.page.specs.Page.{accepted}
 use Rattle.replace.specs.Table.{inSpans}
 use Rattle.check_char.specs.Check.{excepted, clean, all}
-use Rattle.isolate_unassigned.specs.Isolate.{isolateOf}
+use Rattle.isolate_unassigned.specs.Meaning.{isolated}
 use Rattle.text_input.specs.declared.Options.{Options}
 use Rattle.text_input.specs.declared.TextInput.{TextInput}
 use Rattle.text_input.specs.Scan.{Outcome, fresh}
@@ -41,7 +41,7 @@ pub record Promise (page : List ℕ) (options : Options) (calls : List Call) (qu
   pub holds : all clean queue ≡ true
   -- holding none of these, it passes a plain writer: "The write and the close are on a writer record of their own, the close on the
   -- one that the write returned." It hands out "the queue isolated as one run with the page."
-  pub passes : NoneExcepted queue → PassesIn Plain page queue (isolateOf page queue)
+  pub passes : NoneExcepted queue → PassesIn Plain page queue (isolated page queue)
 
 -- for every accepted page, options, list of calls and what a caller sees of it, from a fresh record
 -- "Demand 3 is one statement about the whole list of calls, and not a statement for each call." "Once scan, finish, plain write and
@@ -57,7 +57,7 @@ Demand3 =
 -- a queue passes them too
 pub record Others (page queue : List ℕ) : Type 0 where
   -- isolated as one run, as it passes a plain writer
-  pub color : PassesIn Color page queue (isolateOf page queue)
+  pub color : PassesIn Color page queue (isolated page queue)
   -- "In CRLF mode each part between 0A is isolated alone and 0A gives 0D 0A."
   pub crlf : PassesIn Crlf page queue (crlfOf page queue)
 

@@ -13,7 +13,7 @@ use Rattle.page.specs.Page.{sized, rising, nonstarter, assigned, accepted}
 use Rattle.text_utils.specs.Classes.{starter, graphemeExtendNotCgj, spacingMarkPlus, basicTextStart, basicTextEnd, isPrivateUse}
 use Rattle.replace.specs.Replace.{replaceOf}
 use Rattle.check_char.specs.Check.{reasonOf, checkNumbers}
-use Rattle.isolate_unassigned.specs.Isolate.{toIsolate, isolateStepOf as isolateStep, isolateOf}
+use Rattle.isolate_unassigned.specs.Meaning.{toIsolate, isolated}
 use Rattle.text_output.specs.declared.Ground.the-variants.{Newline, ZwjOrPrepend, Other}
 use Rattle.text_output.specs.declared.State.{State}
 use Rattle.text_output.specs.declared.State.the-variants.{Ground, Esc, Csi}
@@ -356,5 +356,5 @@ table =
 pub examples : map computed table ≡ map (λ (row : Row). row .expected) table
 unfolding table writeStrOf writeRefusal writtenBy runOf parts moreParts stepsOf writeStepOf groundOf flushOf closeOf abandonOf isChar
     replaceOf reasonOf checkNumbers basicTextStart basicTextEnd starter graphemeExtendNotCgj spacingMarkPlus isPrivateUse
-    toIsolate isolateStep isolateOf accepted sized rising nonstarter assigned member rises
+    toIsolate isolated accepted sized rising nonstarter assigned member rises
 examples = refl

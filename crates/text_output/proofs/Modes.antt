@@ -16,7 +16,7 @@ use Rattle.page.specs.Page.{accepted}
 use Rattle.text_utils.specs.Classes.{basicTextStart, starter}
 use Rattle.text_utils.proofs.Classes.{start-low}
 use Rattle.check_char.specs.Check.{all}
-use Rattle.isolate_unassigned.specs.Isolate.{isolateOf}
+use Rattle.isolate_unassigned.specs.Meaning.{isolated}
 use Rattle.text_output.specs.declared.Ground.the-variants.{Newline}
 use Rattle.text_output.specs.declared.State.the-variants.{Ground as Grounded}
 use Rattle.text_output.specs.declared.Mode.the-variants.{Crlf, Color}
@@ -29,7 +29,7 @@ use Rattle.text_output.proofs.Passing.{startsWell, endsWell, starts-iso
 
 -- ---- color
 pub passes-color : (p : List ℕ) → accepted p ≡ true → (q : List ℕ) →
-    areChars q ≡ true → all writable q ≡ true → startsWell p q ≡ true → endsWell true q ≡ true → PassesIn Color p q (isolateOf p q)
+    areChars q ≡ true → all writable q ≡ true → startsWell p q ≡ true → endsWell true q ≡ true → PassesIn Color p q (isolated p q)
 passes-color p a q c f s l = passes-as-one Color p a q c f s l refl
 
 -- ---- the parts of a queue
@@ -105,20 +105,20 @@ length-parts (more e r) = omega (arith, length-parts r)
 
 -- ---- what goes out
 -- parts isolated, each alone, and joined
-abbrev isolated : List ℕ → List (List ℕ) → List ℕ
-isolated p ps = joinedByCrlf (map (isolateOf p) ps)
+abbrev linesOf : List ℕ → List (List ℕ) → List ℕ
+linesOf p ps = joinedByCrlf (map (isolated p) ps)
 
 module _ (p : List ℕ) where
   -- each part isolated takes three times its length at most, and 0D 0A less than 0A has room for
   parts-fit : (part : List ℕ) (rest : List (List ℕ)) →
-      length (isolated p (part ∷ rest)) ≤ 3 * (length part + lengthBehind rest)
+      length (linesOf p (part ∷ rest)) ≤ 3 * (length part + lengthBehind rest)
   parts-fit part [] = omega (arith, isolated-fits p part)
   parts-fit part (next ∷ rest) =
       omega (
         arith,
         isolated-fits p part,
         parts-fit next rest,
-        length-append (isolateOf p part) (0x0D ∷ 0x0A ∷ isolated p (next ∷ rest)),
+        length-append (isolated p part) (0x0D ∷ 0x0A ∷ linesOf p (next ∷ rest)),
       )
 
   -- two lists that start well joined
@@ -133,15 +133,15 @@ module _ (p : List ℕ) where
 
   -- parts whose first starts well start well isolated
   parts-start : accepted p ≡ true → (part : List ℕ) (rest : List (List ℕ)) → startsWell p part ≡ true →
-      startsWell p (isolated p (part ∷ rest)) ≡ true
+      startsWell p (linesOf p (part ∷ rest)) ≡ true
   parts-start a part [] s = starts-isolated p a part s
-  parts-start a part (next ∷ rest) s = starts-append (isolateOf p part) _ (starts-isolated p a part s) start-return
+  parts-start a part (next ∷ rest) s = starts-append (isolated p part) _ (starts-isolated p a part s) start-return
 
   -- from after a newline, the steps of parts of writable characters lead there again where the last part is empty
   parts-go : (part : List ℕ) (rest : List (List ℕ)) (m : Machine) → m .state ≡ Grounded Newline → m .held ≡ 0 →
       all writable part ≡ true → allParts writable rest ≡ true → lastEmpty (empty part) rest ≡ true →
-      partsOf Crlf p m (part ∷ rest) ≡ goes (isolated p (part ∷ rest)) (onGround m Newline)
-  unfolding moreParts isolateOf
+      partsOf Crlf p m (part ∷ rest) ≡ goes (linesOf p (part ∷ rest)) (onGround m Newline)
+  unfolding moreParts isolated
   parts-go [] [] m s n f g l = rw (isolated-goes Crlf p [] m Newline s n f)
   parts-go (c ∷ part) [] m s n f g l = never l
   parts-go part (next ∷ rest) m s n f g l =
@@ -155,7 +155,7 @@ passes-crlf p a q c f s l =
     let d = split-parts q in
     let k = parts-pass writable (d .parted) f in
     rw (d .is)
-    (passes-by Crlf p q (isolated p (d .first ∷ d .rest)) a c
+    (passes-by Crlf p q (linesOf p (d .first ∷ d .rest)) a c
     (parts-start p a (d .first) (d .rest) (first-starts p (d .parted) s))
     (omega (arith, parts-fit p (d .first) (d .rest), length-parts (d .parted)))
     (rw (d .is) (parts-go p (d .first) (d .rest) freshMachine refl refl (k .0) (k .1) (rw (ends-empty (d .parted) true) at l))))

@@ -16,7 +16,7 @@
 --     passes-plain         such a queue passes a plain writer
 use Prim.Native.Nat.{ℕ, _*_, _≤_}
 use mathlib.Core.Path.{_≡_, refl, _∙_}
-use mathlib.Core.Bool.{Bool, true, false, and-false}
+use mathlib.Core.Bool.{Bool, true, false, _||_, and-false}
 use mathlib.Core.List.{List, [], _∷_, _++_}
 use native.Mathlib.Nat.{zero-add}
 use native.Mathlib.Omega.{arith}
@@ -25,17 +25,13 @@ use lib.ListN.{length, drop}
 use lib.Seq.{take-append-seam}
 use borrow.Author.Tests.{eqb-true, le-ltb}
 use Rattle.unicode.specs.Chars.{areChars}
-use Rattle.common.proofs.Kit.{split}
 use Rattle.common.proofs.Lists.{sets-first}
 use Rattle.page.specs.Page.{accepted}
 use Rattle.page.proofs.PageLaws.{facts-of-accepted}
 use Rattle.text_utils.specs.Classes.{basicTextStart}
 use Rattle.text_utils.proofs.Classes.{start-joiner}
 use Rattle.check_char.specs.Check.{all}
-use Rattle.isolate_unassigned.specs.declared.IsolateUnassigned.{IsolateUnassigned}
-use Rattle.isolate_unassigned.specs.declared.Isolated.{Isolated}
-use Rattle.isolate_unassigned.specs.Isolate.{toIsolate, isolatorOf, fresh as unmarked, puts, isolateStepOf, givesOut, after, isolatedFrom, isolateOf}
-use Rattle.isolate_unassigned.specs.Meaning.{PutIn, none, kept, put}
+use Rattle.isolate_unassigned.specs.Meaning.{toIsolate, gotBefore, getsAfter, joiner, isolatedAfter, isolated, PutIn, none, kept, put}
 use Rattle.isolate_unassigned.proofs.Laws.{length-isolate, isolate-puts-in}
 use Rattle.text_output.specs.declared.Ground.{Ground}
 use Rattle.text_output.specs.declared.Ground.the-variants.{Newline}
@@ -67,26 +63,29 @@ module _ (p : List ℕ) (a : accepted p ≡ true) where
   starts-put-in (kept r) h = h
   starts-put-in (put r) h = start-joiner p a
 
-  pub starts-isolated : (cs : List ℕ) → startsWell p cs ≡ true → startsWell p (isolateOf p cs) ≡ true
+  pub starts-isolated : (cs : List ℕ) → startsWell p cs ≡ true → startsWell p (isolated p cs) ≡ true
   starts-isolated cs = starts-put-in (isolate-puts-in p cs)
 
   newline-assigned : (c : ℕ) → eqb c 0x0A ≡ true → toIsolate p c ≡ false
   unfolding toIsolate
   newline-assigned c e = rw (eqb-true c 0x0A e, facts-of-accepted p a .assigned-0a)
 
-  -- from a record that owes no 34F if it is after 0A
-  outs-end : (cs : List ℕ) (r : IsolateUnassigned) (b : Bool) → (b ≡ true → r .«need_cgj» ≡ false) → endsWell b cs ≡ true →
-      endsWell b (isolatedFrom p r cs) ≡ true
-  unfolding isolateStepOf
-  outs-end [] r b f h = rw (f h) h
-  outs-end (c ∷ cs) r b f h =
-      split (λ (s : Isolated). endsWell b (givesOut s ++ isolatedFrom p (after s) cs) ≡ true) (puts p r c)
-      (λ e. outs-end cs (isolatorOf (toIsolate p c) false) (eqb c 0x0A) (newline-assigned c) h)
-      (λ e. outs-end cs (isolatorOf false (eqb c 0x34F)) (eqb c 0x0A) (λ n. refl) h)
+  -- what is put in before a character does not change how characters end
+  joiner-ends : (put : Bool) (b : Bool) (c : ℕ) (ds : List ℕ) → endsWell b (joiner put ++ c ∷ ds) ≡ endsWell (eqb c 0x0A) ds
+  joiner-ends true b c ds = refl
+  joiner-ends false b c ds = refl
 
-  pub ends-isolated : (cs : List ℕ) → endsWell true cs ≡ true → endsWell true (isolateOf p cs) ≡ true
-  unfolding isolateOf
-  ends-isolated cs = outs-end cs unmarked true (λ e. refl)
+  -- behind characters of which the nearest got no 34F if it is 0A
+  after-ends : (cs before : List ℕ) (b : Bool) → (b ≡ true → gotBefore p before ≡ false) → endsWell b cs ≡ true →
+      endsWell b (isolatedAfter p before cs) ≡ true
+  after-ends [] before b f h = rw (f h) h
+  after-ends (c ∷ cs) before b f h =
+      joiner-ends (getsAfter p before c || gotBefore p (c ∷ before)) b c (isolatedAfter p (c ∷ before) cs)
+      ∙ after-ends cs (c ∷ before) (eqb c 0x0A) (λ e. rw (newline-assigned c e)) h
+
+  pub ends-isolated : (cs : List ℕ) → endsWell true cs ≡ true → endsWell true (isolated p cs) ≡ true
+  unfolding isolated
+  ends-isolated cs = after-ends cs [] true (λ e. refl)
 
 pub ends-on-newline : (cs : List ℕ) (g : Ground) (b : Bool) → (b ≡ true → g ≡ Newline) → endsWell b cs ≡ true →
     groundAfter g cs ≡ Newline
@@ -96,9 +95,9 @@ ends-on-newline (c ∷ cs) g b f h = ends-on-newline cs (groundOf c) (eqb c 0x0A
 
 -- ---- the write
 pub lines-go : (mode : Mode) (p : List ℕ) → accepted p ≡ true → (cs : List ℕ) (m : Machine) → m .state ≡ Grounded Newline → m .held ≡ 0 →
-    all writable cs ≡ true → endsWell true cs ≡ true → runOf mode p m cs ≡ goes (isolateOf p cs) (onGround m Newline)
+    all writable cs ≡ true → endsWell true cs ≡ true → runOf mode p m cs ≡ goes (isolated p cs) (onGround m Newline)
 lines-go mode p a cs m s n f l =
-    rw (ends-on-newline (isolateOf p cs) Newline true (λ t. refl) (ends-isolated p a cs l)) at (isolated-goes mode p cs m Newline s n f)
+    rw (ends-on-newline (isolated p cs) Newline true (λ t. refl) (ends-isolated p a cs l)) at (isolated-goes mode p cs m Newline s n f)
 
 pub write-runs : (w : TextOutput) (p cs places : List ℕ) → sound (machineOf w) ≡ true → accepted p ≡ true → areChars cs ≡ true →
     placesForWrite w (length cs) ≤ length places → writeStrOf w p cs places ≡ endedBy p w (runIn (w .mode) p (machineOf w) cs) places
@@ -127,7 +126,7 @@ unfolding closeOf
 closes-on-newline w s n = record { number = rw (s, n) refl; stays = rw (s, n) refl }
 
 -- ---- both
-pub isolated-fits : (p cs : List ℕ) → length (isolateOf p cs) ≤ 3 * length cs
+pub isolated-fits : (p cs : List ℕ) → length (isolated p cs) ≤ 3 * length cs
 isolated-fits p [] = omega (arith, length-isolate p [])
 isolated-fits p (c ∷ cs) = omega (arith, length-isolate p (c ∷ cs))
 
@@ -150,10 +149,10 @@ passes-by m p q xs a c s fits go places room wrote w closed d =
 -- a mode whose run is one run, isolated as a whole
 pub passes-as-one : (m : Mode) (p : List ℕ) → accepted p ≡ true → (q : List ℕ) →
     areChars q ≡ true → all writable q ≡ true → startsWell p q ≡ true → endsWell true q ≡ true →
-    runIn m p freshMachine q ≡ runOf m p freshMachine q → PassesIn m p q (isolateOf p q)
+    runIn m p freshMachine q ≡ runOf m p freshMachine q → PassesIn m p q (isolated p q)
 passes-as-one m p a q c f s l one =
-    passes-by m p q (isolateOf p q) a c (starts-isolated p a q s) (isolated-fits p q) (one ∙ lines-go m p a q freshMachine refl refl f l)
+    passes-by m p q (isolated p q) a c (starts-isolated p a q s) (isolated-fits p q) (one ∙ lines-go m p a q freshMachine refl refl f l)
 
 pub passes-plain : (p : List ℕ) → accepted p ≡ true → (q : List ℕ) →
-    areChars q ≡ true → all writable q ≡ true → startsWell p q ≡ true → endsWell true q ≡ true → PassesIn Plain p q (isolateOf p q)
+    areChars q ≡ true → all writable q ≡ true → startsWell p q ≡ true → endsWell true q ≡ true → PassesIn Plain p q (isolated p q)
 passes-plain p a q c f s l = passes-as-one Plain p a q c f s l refl

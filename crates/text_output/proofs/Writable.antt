@@ -16,8 +16,7 @@ use Rattle.common.proofs.Kit.{never, both-true, both}
 use Rattle.replace.specs.Table.{inSpans}
 use Rattle.check_char.specs.Check.{excepted, reasonOf, clean, all}
 use Rattle.check_char.proofs.Clean.{accepted-joiner, refused-substitute}
-use Rattle.isolate_unassigned.specs.Isolate.{isolateOf}
-use Rattle.isolate_unassigned.specs.Meaning.{PutIn, none, kept as same, put}
+use Rattle.isolate_unassigned.specs.Meaning.{isolated, PutIn, none, kept as same, put}
 use Rattle.isolate_unassigned.proofs.Laws.{isolate-puts-in}
 use Rattle.text_output.specs.declared.Ground.{Ground}
 use Rattle.text_output.specs.declared.State.the-variants.{Ground as Grounded}
@@ -79,7 +78,7 @@ all-put-in f j none h = refl
 all-put-in f j (same {c} {cs} r) h = let q = both-true (f c) (all f cs) h in both (q .0) (all-put-in f j r (q .1))
 all-put-in f j (put r) h = both j (all-put-in f j r h)
 
-pub all-isolated : (f : ℕ → Bool) → f 0x34F ≡ true → (p cs : List ℕ) → all f cs ≡ true → all f (isolateOf p cs) ≡ true
+pub all-isolated : (f : ℕ → Bool) → f 0x34F ≡ true → (p cs : List ℕ) → all f cs ≡ true → all f (isolated p cs) ≡ true
 all-isolated f j p cs = all-put-in f j (isolate-puts-in p cs)
 
 -- no 1A takes the place of a character
@@ -90,8 +89,8 @@ checked-same (c ∷ cs) h =
     rw (both-true (eqb (reasonOf c) 0) (not (eqb c 0x1B)) (q .0) .0, checked-same cs (q .1))
 
 pub isolated-goes : (mode : Mode) (p cs : List ℕ) (m : Machine) (g : Ground) → m .state ≡ Grounded g → m .held ≡ 0 →
-    all writable cs ≡ true → runOf mode p m cs ≡ goes (isolateOf p cs) (onGround m (groundAfter g (isolateOf p cs)))
+    all writable cs ≡ true → runOf mode p m cs ≡ goes (isolated p cs) (onGround m (groundAfter g (isolated p cs)))
 unfolding runOf
 isolated-goes mode p cs m g s n h =
     rw (checked-same cs h)
-    (run-goes mode (isolateOf p cs) m g (firstError cs) s n (all-isolated writable writable-joiner p cs h))
+    (run-goes mode (isolated p cs) m g (firstError cs) s n (all-isolated writable writable-joiner p cs h))

@@ -5,7 +5,7 @@ use mathlib.Core.Bool.{false}
 use mathlib.Core.Path.{_≡_}
 use mathlib.Core.List.{List, [], _∷_, _++_, map}
 use lib.ListN.{length, take}
-use Rattle.isolate_unassigned.specs.Isolate.{isolateOf}
+use Rattle.isolate_unassigned.specs.Meaning.{isolated}
 use Rattle.text_output.specs.declared.Mode.{Mode}
 use Rattle.text_output.specs.Writer.{Given, Outcome, fresh}
 use Rattle.text_output.specs.Write.{parts, placesForWrite, writeStrOf}
@@ -40,4 +40,4 @@ joinedByCrlf (part ∷ next ∷ rest) = part ++ 0x0D ∷ 0x0A ∷ joinedByCrlf (
 
 -- "In CRLF mode each part between 0A is isolated alone"
 abbrev pub crlfOf : List ℕ → List ℕ → List ℕ
-crlfOf page queue = joinedByCrlf (map (isolateOf page) (parts queue))
+crlfOf page queue = joinedByCrlf (map (isolated page) (parts queue))

@@ -12,7 +12,7 @@ use Rattle.unicode.specs.Utf8.{encodeAll, charsOf}
 use Rattle.page.specs.Page.{accepted}
 use Rattle.text_utils.specs.Classes.{basicTextStart}
 use Rattle.check_char.specs.Check.{reasonOf, checkNumbers}
-use Rattle.isolate_unassigned.specs.Isolate.{isolateOf}
+use Rattle.isolate_unassigned.specs.Meaning.{isolated}
 use Rattle.text_output.specs.declared.Ground.the-variants.{Newline}
 use Rattle.text_output.specs.declared.Mode.{Mode}
 use Rattle.text_output.specs.declared.Mode.the-variants.{Plain, Crlf, Color}
@@ -33,7 +33,7 @@ firstError (c ∷ cs) = cond (eqb (reasonOf c) 0) (firstError cs) (checkNumbers 
 
 -- "then isolated, then stepped through `state_machine_char`": `state_machine`
 unfoldable pub runOf : Mode → List ℕ → Machine → List ℕ → Stepped
-runOf mode p m chars = stepsOf mode m (firstError chars) (isolateOf p (map checked chars))
+runOf mode p m chars = stepsOf mode m (firstError chars) (isolated p (map checked chars))
 
 -- a list with c put before its first part
 abbrev pub intoFirst : ℕ → List (List ℕ) → List (List ℕ)

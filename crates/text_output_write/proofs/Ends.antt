@@ -7,7 +7,8 @@ use mathlib.Core.Bool.{true}
 use mathlib.Core.List.{List}
 use native.Mathlib.Omega.{arith}
 use lib.ListN.{length}
-use Rattle.isolate_unassigned.specs.Isolate.{fresh}
+use Rattle.page.specs.Page.{accepted}
+use Rattle.isolate_unassigned.specs.Inner.{fresh}
 use Rattle.text_output.specs.declared.Mode.{Mode}
 use Rattle.text_output.specs.declared.TextOutput.{TextOutput}
 use Rattle.text_output.specs.Writer.{Machine, machineOf, sound}
@@ -23,10 +24,10 @@ ended-stored p w (goes xs m) places = refl
 ended-stored p w (stops xs m n) places = refl
 
 -- how much a write adds
-run-stays : (mode : Mode) (p cs : List ℕ) (m : Machine) → sound m ≡ true → Stays (3 * length cs) m (runIn mode p m cs)
-run-stays mode p cs m s =
-    rw (run-rest mode p m cs) (stays-more (3 * length cs + 0) _ m _ (omega arith) (rest-stays mode p cs m fresh s))
+run-stays : (mode : Mode) (p : List ℕ) → accepted p ≡ true → (cs : List ℕ) (m : Machine) → sound m ≡ true → Stays (3 * length cs) m (runIn mode p m cs)
+run-stays mode p a cs m s =
+    rw (run-rest mode p a m cs) (stays-more (3 * length cs + 0) _ m _ (omega arith) (rest-stays mode p cs m fresh s))
 
-pub write-fits : (p cs : List ℕ) (w : TextOutput) (n : ℕ) → sound (machineOf w) ≡ true → placesForWrite w (length cs) ≤ n →
+pub write-fits : (p : List ℕ) → accepted p ≡ true → (cs : List ℕ) (w : TextOutput) (n : ℕ) → sound (machineOf w) ≡ true → placesForWrite w (length cs) ≤ n →
     w .kept + length (pushed (runIn (w .mode) p (machineOf w) cs)) ≤ n
-write-fits p cs w n s h = omega (arith, run-stays (w .mode) p cs (machineOf w) s .size)
+write-fits p a cs w n s h = omega (arith, run-stays (w .mode) p a cs (machineOf w) s .size)

@@ -102,7 +102,7 @@ module _ (w : TextOutput) (r : Place) (b : Begins w r) (p cs : List ℕ) where
       (accepted p ≡ true)
       × ((sound (machineAt r (w .«escape_sequence»)) ≡ true)
       × (r .at + length (pushed (runIn (w .mode) p (machineAt r (w .«escape_sequence»)) cs)) ≤ room))
-  place-asks room t = (t .page, (rw (b .0) (t .is-sound), rw (same-run, b .1) (write-fits p cs w room (t .is-sound) (t .fits))))
+  place-asks room t = (t .page, (rw (b .0) (t .is-sound), rw (same-run, b .1) (write-fits p (t .page) cs w room (t .is-sound) (t .fits))))
 
   -- how they end
   pub place-ends : (x : Pushed) (escape' places' places : List ℕ) →

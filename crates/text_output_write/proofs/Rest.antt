@@ -1,10 +1,10 @@
 -- A write is the same character by character. Idea: a step looks at the error at 1A alone, and there it ends, so the first error of a
--- run is that of the character at hand.
+-- run is that of the character at hand. By an accepted page the isolator's steps give the run isolated.
 --     restOf                          what is left of a write, where the isolator stands at a record
 --     andThen-assoc, andThen-alike    steps behind steps behind steps; behind the same steps
 --     steps-append                    the steps of two runs, one behind the other
 --     steps-joiner                    34F, put or not, looks at no error
---     run-rest                        a write of characters is what is left of it at its start
+--     run-rest                        by an accepted page, a write of characters is what is left of it at its start
 use Prim.Native.Nat.{ℕ}
 use mathlib.Core.Path.{_≡_, refl, sym, _∙_, ap}
 use mathlib.Core.Bool.{Bool, true, false}
@@ -13,12 +13,13 @@ use native.Mathlib.Omega.{arith}
 use lib.Dec.{eqb}
 use borrow.Author.Tests.{eqb-true, ne-eqb}
 use Rattle.common.proofs.Kit.{by}
+use Rattle.page.specs.Page.{accepted}
 use Rattle.check_char.specs.Check.{reasonOf, checkNumbers}
 use Rattle.check_char.proofs.Clean.{refused-substitute}
 use Rattle.isolate_unassigned.specs.declared.IsolateUnassigned.{IsolateUnassigned}
-use Rattle.isolate_unassigned.specs.Isolate.{fresh, puts, givesOut, after, lastOwed, isolatedFrom, isolateOf}
-use Rattle.isolate_unassigned.specs.Isolate.{isolateStepOf as isolatedBy}
-use Rattle.isolate_unassigned.specs.Meaning.{joiner}
+use Rattle.isolate_unassigned.specs.Meaning.{joiner, isolated}
+use Rattle.isolate_unassigned.specs.Inner.{fresh, puts, isolateStepOf, givesOut, after, lastOwed, isolatedFrom}
+use Rattle.isolate_unassigned.proofs.Means.{isolate-means}
 use Rattle.text_output.specs.declared.Mode.{Mode}
 use Rattle.text_output.specs.declared.Mode.the-variants.{Plain, Crlf, Color}
 use Rattle.text_output.specs.Writer.{Machine}
@@ -63,8 +64,8 @@ pub accepted-no-sub : (c : ℕ) → reasonOf c ≡ 0 → eqb c 0x1A ≡ false
 accepted-no-sub c r = ne-eqb c 0x1A (λ e. omega (arith, refused-substitute, rw e at r))
 
 -- what the isolator gives: 34F or none, and the character
-pub given-joined : (p : List ℕ) (r : IsolateUnassigned) (c : ℕ) → givesOut (isolatedBy p r c) ≡ joiner (puts p r c) ++ c ∷ []
-unfolding isolatedBy
+pub given-joined : (p : List ℕ) (r : IsolateUnassigned) (c : ℕ) → givesOut (isolateStepOf p r c) ≡ joiner (puts p r c) ++ c ∷ []
+unfolding isolateStepOf
 given-joined p r c = by (puts p r c) (λ e. rw e) (λ e. rw e)
 
 module _ (mode : Mode) where
@@ -104,7 +105,7 @@ module _ (mode : Mode) where
 
   -- the steps of an accepted character look at no error
   turn-accepted : (p : List ℕ) (m : Machine) (r : IsolateUnassigned) (c : ℕ) (e f : List ℕ) → reasonOf c ≡ 0 →
-      stepsOf mode m e (givesOut (isolatedBy p r c)) ≡ stepsOf mode m f (givesOut (isolatedBy p r c))
+      stepsOf mode m e (givesOut (isolateStepOf p r c)) ≡ stepsOf mode m f (givesOut (isolateStepOf p r c))
   turn-accepted p m r c e f h =
       let n = accepted-no-sub c h in
       rw (given-joined p r c, steps-joined (puts p r c) m e c, steps-joined (puts p r c) m f c)
@@ -112,7 +113,7 @@ module _ (mode : Mode) where
 
   -- nothing comes behind a refused character
   turn-refused : (p : List ℕ) (m : Machine) (r : IsolateUnassigned) (error : List ℕ) (more : Machine → Stepped) →
-      andThen (stepsOf mode m error (givesOut (isolatedBy p r 0x1A))) more ≡ stepsOf mode m error (givesOut (isolatedBy p r 0x1A))
+      andThen (stepsOf mode m error (givesOut (isolateStepOf p r 0x1A))) more ≡ stepsOf mode m error (givesOut (isolateStepOf p r 0x1A))
   turn-refused p m r error more =
       let put = puts p r 0x1A in
       let first = stepsOf mode m [] (joiner put) in
@@ -123,14 +124,14 @@ module _ (mode : Mode) where
   -- one character of a run
   one-turn : (p : List ℕ) (m : Machine) (r : IsolateUnassigned) (c : ℕ) (cs : List ℕ) →
       left p m r (c ∷ cs)
-      ≡ andThen (stepsOf mode m (checkNumbers c) (givesOut (isolatedBy p r (checked c)))) (λ next. left p next (after (isolatedBy p r (checked c))) cs)
+      ≡ andThen (stepsOf mode m (checkNumbers c) (givesOut (isolateStepOf p r (checked c)))) (λ next. left p next (after (isolateStepOf p r (checked c))) cs)
   one-turn p m r c cs =
       by (eqb (reasonOf c) 0)
       (λ e.
-      let s = isolatedBy p r c in
+      let s = isolateStepOf p r c in
       rw (e, steps-append (givesOut s) (isolatedFrom p (after s) (map checked cs)) m (firstError cs), turn-accepted p m r c (firstError cs) (checkNumbers c) (eqb-true _ _ e)))
       (λ e.
-      let s = isolatedBy p r 0x1A in
+      let s = isolateStepOf p r 0x1A in
       rw (e, steps-append (givesOut s) (isolatedFrom p (after s) (map checked cs)) m (checkNumbers c))
       (turn-refused p m r (checkNumbers c) _ ∙ sym (turn-refused p m r (checkNumbers c) _)))
 
@@ -142,7 +143,7 @@ module _ (mode : Mode) where
   left-rest h p (c ∷ cs) m r =
       rw h
       (one-turn p m r c cs
-      ∙ andThen-alike (stepsOf mode m (checkNumbers c) (givesOut (isolatedBy p r (checked c)))) _ _ (λ next. left-rest h p cs next (after (isolatedBy p r (checked c)))))
+      ∙ andThen-alike (stepsOf mode m (checkNumbers c) (givesOut (isolateStepOf p r (checked c)))) _ _ (λ next. left-rest h p cs next (after (isolateStepOf p r (checked c)))))
 
 -- part by part, the first of them from the isolator's record on
 abbrev partsLeft : List ℕ → Machine → IsolateUnassigned → List (List ℕ) → Stepped
@@ -163,36 +164,47 @@ parts-split (c ∷ cs) =
     (λ e. record { first = []; rest = parts cs; is = rw e })
     (λ e. let s = parts-split cs in record { first = c ∷ s .first; rest = s .rest; is = rw (e, s .is) })
 
-more-first : (p : List ℕ) (m : Machine) (ps : List (List ℕ)) → Split ps →
-    moreParts Crlf p m ps ≡ andThen (putCrlf m) (λ next. partsLeft p next fresh ps)
-unfolding moreParts runOf isolateOf
-more-first p m ps s = rw (s .is) refl
+-- a run isolated is what is left of it at its start
+run-left : (mode : Mode) (p : List ℕ) → accepted p ≡ true → (cs : List ℕ) (m : Machine) → runOf mode p m cs ≡ left mode p m fresh cs
+unfolding runOf
+run-left mode p a cs m = rw (← isolate-means p (map checked cs) a) refl
 
-parts-rest : (p cs : List ℕ) (m : Machine) (r : IsolateUnassigned) → partsLeft p m r (parts cs) ≡ restOf Crlf p m r cs
+first-left : (p : List ℕ) → accepted p ≡ true → (part : List ℕ) (rest : List (List ℕ)) (m : Machine) →
+    partsOf Crlf p m (part ∷ rest) ≡ partsLeft p m fresh (part ∷ rest)
+first-left p a part rest m = rw (run-left Crlf p a part m) refl
+
+more-first : (p : List ℕ) → accepted p ≡ true → (m : Machine) (ps : List (List ℕ)) → Split ps →
+    moreParts Crlf p m ps ≡ andThen (putCrlf m) (λ next. partsLeft p next fresh ps)
+unfolding moreParts
+more-first p a m ps s =
+    rw (s .is)
+    (andThen-alike (putCrlf m) (λ next. partsOf Crlf p next (s .first ∷ s .rest)) (λ next. partsLeft p next fresh (s .first ∷ s .rest))
+    (λ next. first-left p a (s .first) (s .rest) next))
+
+parts-rest : (p : List ℕ) → accepted p ≡ true → (cs : List ℕ) (m : Machine) (r : IsolateUnassigned) →
+    partsLeft p m r (parts cs) ≡ restOf Crlf p m r cs
 unfolding restOf turnOf isolatorAfter parts moreParts
-parts-rest p [] m r = andThen-none (stepsOf Crlf m [] (lastOwed r))
-parts-rest p (c ∷ cs) m r =
+parts-rest p a [] m r = andThen-none (stepsOf Crlf m [] (lastOwed r))
+parts-rest p a (c ∷ cs) m r =
     let s = parts-split cs in
     by (eqb c 0x0A)
     (λ e.
     let owed = stepsOf Crlf m [] (lastOwed r) in
     rw e
-    (andThen-alike owed _ _ (λ next. more-first p next (parts cs) s)
+    (andThen-alike owed _ _ (λ next. more-first p a next (parts cs) s)
     ∙ sym (andThen-assoc owed putCrlf (λ next. partsLeft p next fresh (parts cs)))
-    ∙ andThen-alike (andThen owed putCrlf) _ _ (λ next. parts-rest p cs next fresh)))
+    ∙ andThen-alike (andThen owed putCrlf) _ _ (λ next. parts-rest p a cs next fresh)))
     (λ e.
-    let turn = stepsOf Crlf m (checkNumbers c) (givesOut (isolatedBy p r (checked c))) in
-    let r' = after (isolatedBy p r (checked c)) in
+    let turn = stepsOf Crlf m (checkNumbers c) (givesOut (isolateStepOf p r (checked c))) in
+    let r' = after (isolateStepOf p r (checked c)) in
     rw (e, s .is, one-turn Crlf p m r c (s .first))
     (andThen-assoc turn (λ next. left Crlf p next r' (s .first)) (λ next. moreParts Crlf p next (s .rest))
-    ∙ andThen-alike turn _ _ (λ next. rw (s .is) at (parts-rest p cs next r'))))
+    ∙ andThen-alike turn _ _ (λ next. rw (s .is) at (parts-rest p a cs next r'))))
 
-parts-from : (p : List ℕ) (m : Machine) (ps : List (List ℕ)) → Split ps → partsOf Crlf p m ps ≡ partsLeft p m fresh ps
-unfolding runOf isolateOf
-parts-from p m ps s = rw (s .is) refl
+parts-from : (p : List ℕ) → accepted p ≡ true → (m : Machine) (ps : List (List ℕ)) → Split ps → partsOf Crlf p m ps ≡ partsLeft p m fresh ps
+parts-from p a m ps s = rw (s .is) (first-left p a (s .first) (s .rest) m)
 
-pub run-rest : (mode : Mode) (p : List ℕ) (m : Machine) (cs : List ℕ) → runIn mode p m cs ≡ restOf mode p m fresh cs
-unfolding runOf isolateOf
-run-rest Plain p m cs = left-rest Plain refl p cs m fresh
-run-rest Crlf p m cs = parts-from p m (parts cs) (parts-split cs) ∙ parts-rest p cs m fresh
-run-rest Color p m cs = left-rest Color refl p cs m fresh
+pub run-rest : (mode : Mode) (p : List ℕ) → accepted p ≡ true → (m : Machine) (cs : List ℕ) → runIn mode p m cs ≡ restOf mode p m fresh cs
+run-rest Plain p a m cs = run-left Plain p a cs m ∙ left-rest Plain refl p cs m fresh
+run-rest Crlf p a m cs = parts-from p a m (parts cs) (parts-split cs) ∙ parts-rest p a cs m fresh
+run-rest Color p a m cs = run-left Color p a cs m ∙ left-rest Color refl p cs m fresh

@@ -20,7 +20,7 @@ use Rattle.unicode.specs.Utf8.{utf8StepOf as utf8Step}
 use Rattle.unicode.proofs.Texts.{step-on, stop-from}
 use Rattle.page.specs.Page.{accepted}
 use Rattle.isolate_unassigned.specs.declared.IsolateUnassigned.{IsolateUnassigned}
-use Rattle.isolate_unassigned.specs.Isolate.{fresh, lastOwed}
+use Rattle.isolate_unassigned.specs.Inner.{fresh, lastOwed}
 use Rattle.text_output.specs.declared.Mode.{Mode}
 use Rattle.text_output_write.specs.declared.store.Place.{Place}
 use Rattle.text_output_write.specs.declared.store.Pushed.the-variants.{On}
@@ -59,7 +59,7 @@ module _ {L : ℕ → List ℕ → Type 0} {p : List ℕ} {mode : Mode} {start :
   pub begin : Asks p mode start escape₀ out₀ cs₀ → L 0 cs₀ → (r : IsolateUnassigned) → r ≡ fresh →
       Going L p mode start escape₀ out₀ cs₀ start r 0 escape₀ out₀
   begin a l r e =
-      record { is-sound = a .1 .0; same = refl; cs = cs₀; left = l; leads = rw (e, run-rest mode p (machineAt start escape₀) cs₀) refl }
+      record { is-sound = a .1 .0; same = refl; cs = cs₀; left = l; leads = rw (e, run-rest mode p (a .0) (machineAt start escape₀) cs₀) refl }
 
   module _ {w : Place} {r : IsolateUnassigned} {i : ℕ} {escape out : List ℕ} (g : Going L p mode start escape₀ out₀ cs₀ w r i escape out) where
     -- ---- a turn

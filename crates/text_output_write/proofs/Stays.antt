@@ -15,9 +15,8 @@ use borrow.Author.Tests.{eqb-true}
 use Rattle.common.proofs.Kit.{by}
 use Rattle.check_char.specs.Check.{checkNumbers}
 use Rattle.isolate_unassigned.specs.declared.IsolateUnassigned.{IsolateUnassigned}
-use Rattle.isolate_unassigned.specs.Isolate.{fresh, givesOut, after, lastOwed}
-use Rattle.isolate_unassigned.specs.Isolate.{isolateStepOf as isolatedBy}
-use Rattle.isolate_unassigned.proofs.Laws.{givesOut-size, lastOwed-size}
+use Rattle.isolate_unassigned.specs.Inner.{fresh, isolateStepOf, givesOut, after, lastOwed}
+use Rattle.isolate_unassigned.proofs.Means.{givesOut-size, lastOwed-size}
 use Rattle.text_output.specs.declared.Mode.{Mode}
 use Rattle.text_output.specs.declared.Step.{Step}
 use Rattle.text_output.specs.declared.Step.the-variants.{Out, Hold, Whole, NoColor, Unrecognized, Full}
@@ -109,8 +108,8 @@ module _ (mode : Mode) (p : List ℕ) (c : ℕ) where
       Stays 2 m (turnOf mode p m r c)
   unfolding turnOf
   turn-stays-on m r s e =
-      let g = givesOut (isolatedBy p r (checked c)) in
-      rw e (stays-more (length g) 2 m _ (givesOut-size (isolatedBy p r (checked c))) (steps-stay mode g m (checkNumbers c) s))
+      let g = givesOut (isolateStepOf p r (checked c)) in
+      rw e (stays-more (length g) 2 m _ (givesOut-size (isolateStepOf p r (checked c))) (steps-stay mode g m (checkNumbers c) s))
 
   pub turn-sound : (m : Machine) (r : IsolateUnassigned) → sound m ≡ true → Stays (length (lastOwed r) + 2) m (turnOf mode p m r c)
   turn-sound m r s =
@@ -128,7 +127,7 @@ rest-stays mode p (c ∷ cs) m r s =
     (stays-more (length (lastOwed r) + 2 + rest) _ m _ (omega arith)
     (stays-then (length (lastOwed r) + 2) rest m _ _ (turn-stays-end mode p c m r s e) (λ v t. rest-stays mode p cs v fresh t))))
     (λ e.
-    let next = after (isolatedBy p r (checked c)) in
+    let next = after (isolateStepOf p r (checked c)) in
     let rest = 3 * length cs + length (lastOwed next) in
     rw e
     (stays-more (2 + rest) _ m _ (omega (arith, lastOwed-size next))

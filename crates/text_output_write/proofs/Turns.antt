@@ -20,8 +20,7 @@ use Rattle.check_char.proofs.Answers.{accepted, refused}
 use Rattle.isolate_unassigned.specs.declared.IsolateUnassigned.{IsolateUnassigned}
 use Rattle.isolate_unassigned.specs.declared.Isolated.{Isolated}
 use Rattle.isolate_unassigned.specs.declared.Isolated.the-variants.{One, Two}
-use Rattle.isolate_unassigned.specs.Isolate.{fresh, puts, after}
-use Rattle.isolate_unassigned.specs.Isolate.{isolateStepOf as isolatedBy}
+use Rattle.isolate_unassigned.specs.Inner.{fresh, puts, isolateStepOf, after}
 use Rattle.isolate_unassigned.specs.Meaning.{joiner}
 use Rattle.text_output.specs.declared.Mode.{Mode}
 use Rattle.text_output_write.specs.declared.store.Place.{Place}
@@ -39,8 +38,8 @@ abbrev pub two : Isolated → Bool
 two (One c next) = false
 two (Two j c next) = true
 
-pub puts-two : (p : List ℕ) (r : IsolateUnassigned) (c : ℕ) (s : Isolated) → isolatedBy p r c ≡ s → two s ≡ puts p r c
-unfolding isolatedBy
+pub puts-two : (p : List ℕ) (r : IsolateUnassigned) (c : ℕ) (s : Isolated) → isolateStepOf p r c ≡ s → two s ≡ puts p r c
+unfolding isolateStepOf
 puts-two p r c s e = sym (ap two e) ∙ by (puts p r c) (λ q. rw q refl) (λ q. rw q refl)
 
 -- ---- 34F, put or not
@@ -91,6 +90,6 @@ module _ (mode : Mode) (p : List ℕ) (m : Machine) (r : IsolateUnassigned) (c :
   unfolding turnOf
   turn-on e put o = rw (e, o, given-joined p r (checked c)) refl
 
-  pub after-on : isCrlf mode && eqb c 0x0A ≡ false → isolatorAfter mode p r c ≡ after (isolatedBy p r (checked c))
+  pub after-on : isCrlf mode && eqb c 0x0A ≡ false → isolatorAfter mode p r c ≡ after (isolateStepOf p r (checked c))
   unfolding isolatorAfter
   after-on e = rw e refl

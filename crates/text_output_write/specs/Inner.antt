@@ -9,8 +9,7 @@ use lib.Seq.{sets}
 use Rattle.text_utils.specs.Classes.{basicTextStart}
 use Rattle.check_char.specs.Check.{errorNumbers, checkNumbers}
 use Rattle.isolate_unassigned.specs.declared.IsolateUnassigned.{IsolateUnassigned}
-use Rattle.isolate_unassigned.specs.Isolate.{fresh, givesOut, after, lastOwed}
-use Rattle.isolate_unassigned.specs.Isolate.{isolateStepOf as isolatedBy}
+use Rattle.isolate_unassigned.specs.Inner.{fresh, isolateStepOf, givesOut, after, lastOwed}
 use Rattle.text_output.specs.declared.Mode.{Mode}
 use Rattle.text_output.specs.declared.Mode.the-variants.{Plain, Crlf, Color}
 use Rattle.text_output_write.specs.declared.store.Place.{Place}
@@ -85,11 +84,11 @@ isCrlf Color = false
 unfoldable pub turnOf : Mode → List ℕ → Machine → IsolateUnassigned → ℕ → Stepped
 turnOf mode p m r c =
     cond (isCrlf mode && eqb c 0x0A) (andThen (stepsOf mode m [] (lastOwed r)) putCrlf)
-    (stepsOf mode m (checkNumbers c) (givesOut (isolatedBy p r (checked c))))
+    (stepsOf mode m (checkNumbers c) (givesOut (isolateStepOf p r (checked c))))
 
 -- the isolator after it
 unfoldable pub isolatorAfter : Mode → List ℕ → IsolateUnassigned → ℕ → IsolateUnassigned
-isolatorAfter mode p r c = cond (isCrlf mode && eqb c 0x0A) fresh (after (isolatedBy p r (checked c)))
+isolatorAfter mode p r c = cond (isCrlf mode && eqb c 0x0A) fresh (after (isolateStepOf p r (checked c)))
 
 -- ---- the end of a write
 -- of n characters to hand out, the first of them given: there is none, or it is a start

@@ -25,9 +25,8 @@ ghost use lib.ListN.{length};
 ghost use Rattle.unicode.specs.Utf8.{charsOf};
 ghost use Rattle.page.specs.Page.{accepted};
 ghost use Rattle.check_char.specs.Check.{errorNumbers, reasonNumbers, checkNumbers};
-ghost use Rattle.isolate_unassigned.specs.Isolate.{puts, after, lastOwed};
-ghost use Rattle.isolate_unassigned.specs.Isolate.{isolateStepOf as isolatedBy};
 ghost use Rattle.isolate_unassigned.specs.Meaning.{joiner};
+ghost use Rattle.isolate_unassigned.specs.Inner.{puts, isolateStepOf, after, lastOwed};
 ghost use Rattle.text_output.specs.Writer.{sound};
 ghost use Rattle.text_output.specs.Step.{refusedIn, andThen, writeStepOf, stepsOf};
 ghost use Rattle.text_output.specs.Write.{checked, putCrlf, runIn};
@@ -44,7 +43,7 @@ struct Ahead {
 fn look_ahead(page: &[u32], isolator: IsolateUnassigned, c: u32) -> Ahead
     requires { ⌜ accepted (now page) ≡ true ⌝ }
     ensures { λ r. ⌜ r .put ≡ puts (now (page .entry)) isolator c ⌝ }
-    ensures { λ r. ⌜ r .isolator ≡ after (isolatedBy (now (page .entry)) isolator c) ⌝ }
+    ensures { λ r. ⌜ r .isolator ≡ after (isolateStepOf (now (page .entry)) isolator c) ⌝ }
 {
     let isolated = isolator.step(page, c);
     match isolated {

@@ -1,6 +1,6 @@
 -- `is_isolated` meets its contract: its test is the one of `toIsolate`.
 use borrow.Author.Needs.{needs}
-use Rattle.isolate_unassigned.specs.Isolate.{toIsolate}
+use Rattle.isolate_unassigned.specs.Meaning.{toIsolate}
 use Rattle.isolate_unassigned.proofs.is_isolated.Statement.{statement}
 use Rattle.isolate_unassigned.proofs.is_isolated.Tie as tie
 

@@ -7,7 +7,7 @@ use borrow.Author.Needs.{needs}
 use lib.ListN.{length, length-set}
 use Rattle.page.specs.Inner.{Assigned}
 use Rattle.stretch.proofs.Way.{Going, begin}
-use Rattle.isolate_unassigned.specs.Isolate.{fresh}
+use Rattle.isolate_unassigned.specs.Inner.{fresh}
 use Rattle.isolate_unassigned.proofs.Run.{isolateWay, left, moved, fits-last, stored, stored-owed}
 use Rattle.isolate_unassigned.proofs.isolate_run.Statement.{statement}
 use Rattle.isolate_unassigned.proofs.isolate_run.Tie as tie
@@ -32,7 +32,7 @@ advance-requires c κs =
     let l = c .before .before in
     let a = start l .pre in
     let g = l .loop .inv in
-    (a .0, (c .before .loop-test .taken, (g .1 .1, (g .1 .0, left _ _ _ _ _ _ _ (g .0) (a .1)))))
+    (a .0, (c .before .loop-test .taken, (g .1 .1, (g .1 .0, left _ _ _ _ _ _ _ (g .0) (a .0) (a .1)))))
 
 loop-less : tie.Need-loop-less Inv-loop μ-loop
 loop-less c =
@@ -48,17 +48,18 @@ loop-again c =
 slice-write-out : tie.Need-slice-write-out Inv-loop μ-loop
 slice-write-out c =
     let e = c .before .before in
-    fits-last _ _ _ _ _ _ _ (e .before .loop .inv .0) (e .loop-test .left) (start (e .before) .pre .1) (sym (c .before .finish .ensures) ∙ c .if1 .taken)
+    let a = start (e .before) .pre in
+    fits-last _ _ _ _ _ _ _ (e .before .loop .inv .0) (a .0) (e .loop-test .left) (a .1) (sym (c .before .finish .ensures) ∙ c .if1 .taken)
 
 returns : tie.Need-returns Inv-loop μ-loop
 returns c =
     let e = c .before .before in
-    stored-owed _ _ _ _ _ _ _ (e .before .loop .inv .0) (e .loop-test .left) (sym (c .before .finish .ensures) ∙ c .if1 .taken)
+    stored-owed _ _ _ _ _ _ _ (e .before .loop .inv .0) (start (e .before) .pre .0) (e .loop-test .left) (sym (c .before .finish .ensures) ∙ c .if1 .taken)
 
 returns-2 : tie.Need-returns-2 Inv-loop μ-loop
 returns-2 c =
     let e = c .before .before in
-    stored _ _ _ _ _ _ _ (e .before .loop .inv .0) (e .loop-test .left) (sym (c .before .finish .ensures) ∙ c .if1 .left)
+    stored _ _ _ _ _ _ _ (e .before .loop .inv .0) (start (e .before) .pre .0) (e .loop-test .left) (sym (c .before .finish .ensures) ∙ c .if1 .left)
 
 pub isolate-run-spec : {M : Type 1} → statement M
 isolate-run-spec =

@@ -10,7 +10,7 @@ use borrow.Author.Needs.{needs}
 use Rattle.isolate_unassigned.specs.declared.IsolateUnassigned.{IsolateUnassigned}
 use Rattle.isolate_unassigned.specs.declared.Isolated.{Isolated}
 use Rattle.isolate_unassigned.specs.declared.Isolated.the-variants.{One, Two}
-use Rattle.isolate_unassigned.specs.Isolate.{givesOut, after}
+use Rattle.isolate_unassigned.specs.Inner.{givesOut, after}
 use Rattle.isolate_unassigned.proofs.put_step.Statement.{statement}
 use Rattle.isolate_unassigned.proofs.put_step.Tie as tie
 

@@ -4,7 +4,7 @@ use mathlib.Core.List.{[]}
 use native.Mathlib.Omega.{arith}
 use denote.Ref.{now}
 use lib.ListN.{length}
-use Rattle.isolate_unassigned.specs.Isolate.{lastOwed}
+use Rattle.isolate_unassigned.specs.Inner.{lastOwed}
 use Rattle.text_output.specs.Step.{stepsOf}
 use Rattle.text_output_write.specs.Inner.{machineAt, pushed}
 use Rattle.basic_text.proofs.Moved.{moved, moved-at, moved-few, finish-few, own-machine, own-at}

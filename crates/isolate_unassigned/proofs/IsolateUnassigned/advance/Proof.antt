@@ -10,7 +10,7 @@ use borrow.Author.Tests.{not-true}
 use Rattle.common.proofs.Kit.{both-true}
 use Rattle.page.specs.Page.{assigned}
 use Rattle.isolate_unassigned.specs.declared.Isolated.{Isolated}
-use Rattle.isolate_unassigned.specs.Isolate.{isolateStepOf, givesOut, after}
+use Rattle.isolate_unassigned.specs.Inner.{isolateStepOf, givesOut, after}
 use Rattle.isolate_unassigned.proofs.Stretch.{kept-room, kept-moves, turn-room, turn-moves}
 use Rattle.isolate_unassigned.proofs.IsolateUnassigned.advance.Statement.{statement}
 use Rattle.isolate_unassigned.proofs.IsolateUnassigned.advance.Tie as tie

@@ -1,5 +1,5 @@
 -- `IsolateUnassigned::step_by` meets its contract: its test is `puts`, the one of `isolateStepOf`.
-use Rattle.isolate_unassigned.specs.Isolate.{isolateStepOf}
+use Rattle.isolate_unassigned.specs.Inner.{isolateStepOf}
 use Rattle.isolate_unassigned.proofs.IsolateUnassigned.step_by.Statement.{statement}
 use Rattle.isolate_unassigned.proofs.IsolateUnassigned.step_by.Tie as tie
 

@@ -1,6 +1,6 @@
 -- `look_ahead` meets its contract: the two answers of a step are the two cases of `puts`.
 use mathlib.Core.Path.{sym, _∙_, ap}
-use Rattle.isolate_unassigned.specs.Isolate.{after}
+use Rattle.isolate_unassigned.specs.Inner.{after}
 use Rattle.text_output_write.proofs.Turns.{puts-two}
 use borrow.Author.Needs.{needs}
 use Rattle.text_output_write.proofs.run.look_ahead.Statement.{statement}

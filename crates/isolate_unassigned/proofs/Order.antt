@@ -1,0 +1,37 @@
+-- What refuses an isolation, and in which order.
+--     isolate-order    the refusals, each with its condition written out
+use Prim.Native.Nat.{ℕ, zero, suc, _+_, _*_}
+use mathlib.Core.Path.{_≡_, refl, _∙_}
+use mathlib.Core.Bool.{Bool, true, false, not, cond, _&&_}
+use mathlib.Core.List.{List, [], _∷_}
+use native.Mathlib.Omega.{arith}
+use lib.Dec.{ltb, eqb}
+use lib.ListN.{length}
+use borrow.Author.Tests.{eqb-true, lt-ltb, le-ltb}
+use Rattle.common.specs.Answers.{refusalIn, thenRoom}
+use Rattle.common.specs.Order.{_when_, firstOf}
+use Rattle.common.proofs.Kit.{by}
+use Rattle.unicode.specs.Chars.{areChars}
+use Rattle.page.specs.Page.{accepted}
+use Rattle.isolate_unassigned.specs.Isolate.{placesForRun, isolateRefusal, isolateAnswer}
+
+-- by whether the page is right (a), the values are characters (c), and the sizes
+by-sizes : (a c : Bool) (n room : ℕ) → thenRoom (cond (not a) 2 (cond (not c) 1 0)) (placesForRun n) room
+    ≡ firstOf (2 when not a ∷ 1 when not c ∷ 8 when (ltb 0 n && ltb room (2 * n + 1)) ∷ [])
+by-sizes false c n room = refl
+by-sizes true false n room = refl
+by-sizes true true zero room = rw (le-ltb room 0 (omega arith)) refl
+by-sizes true true (suc n) room = rw (lt-ltb 0 (suc n) (omega arith)) refl
+
+-- the answer's first number is the refusal
+first-number : (n k : ℕ) → refusalIn (cond (eqb n 0) (0 ∷ k ∷ []) (n ∷ [])) ≡ n
+first-number n k = by (eqb n 0) (λ e. rw (eqb-true n 0 e) refl) (λ e. rw e refl)
+
+-- "Isolating a run of n characters needs 2 × n + 1 places, an empty one none; order 2, 1, 8."
+pub isolate-order : (p cs out : List ℕ) →
+    refusalIn (isolateAnswer p cs out)
+    ≡ firstOf (
+    2 when not (accepted p) ∷
+    1 when not (areChars cs) ∷
+    8 when (ltb 0 (length cs) && ltb (length out) (2 * length cs + 1)) ∷ [])
+isolate-order p cs out = first-number (isolateRefusal p cs out) _ ∙ by-sizes (accepted p) (areChars cs) (length cs) (length out)
