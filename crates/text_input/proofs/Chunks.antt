@@ -6,11 +6,13 @@
 --     chunks-spent                         chunks on a record that has had a scan
 --     chunks-first                         chunks on one that has not: the first of them loses its U+FEFF
 --     spent-outs, spent-ends, first-ends   the same by runs
+--     mark-dropped                         what a scan skips is a U+FEFF that begins the chunk
 --     count-of                             all characters are counted
 use Prim.Native.Nat.{ℕ, _+_}
 use mathlib.Core.Bool.{Bool, true, false, cond}
 use mathlib.Core.List.{List, [], _∷_, _++_, append-assoc, flatten}
 use mathlib.Core.Path.{_≡_, refl, ap, ap₂, sym, _∙_}
+use lib.Dec.{eqb}
 use lib.ListN.{length, drop, length-append}
 use native.Mathlib.Nat.{add-assoc}
 use native.Mathlib.Omega.{arith}
@@ -60,6 +62,16 @@ markedStep s start count = record { lead = s .lead; image = s .image; next = mar
 abbrev markedRun : Effect → Bool → ℕ → Effect
 markedRun e start count = record { out = e .out; next = marked (e .next) start count }
 
+-- ---- a chunk without a U+FEFF that begins it
+dropped-by : (c : ℕ) (cs : List ℕ) (b : Bool) → drop (cond b 1 0) (c ∷ cs) ≡ cond b cs (c ∷ cs)
+dropped-by c cs true = refl
+dropped-by c cs false = refl
+
+-- "U+FEFF is dropped only as the first character": what a scan skips
+pub mark-dropped : (c : List ℕ) → drop (leadingBom c) c ≡ withoutBom c
+mark-dropped [] = refl
+mark-dropped (c ∷ cs) = dropped-by c cs (eqb c 0xFEFF)
+
 module _ (p : List ℕ) (o : Options) where
   met-marked : (r : TextInput) (start : Bool) (count c : ℕ) (lead : Lead) (e : Bool) (m : Met) →
       metOf p (marked r start count) c lead e m ≡ markedStep (metOf p r c lead e m) start count
@@ -101,7 +113,7 @@ module _ (p : List ℕ) (o : Options) where
   spent r h c = ap (λ b. drop (cond b (leadingBom c) 0) c) h
 
   unspent : (r : TextInput) → r .«at_start» ≡ true → (c : List ℕ) → drop (skipped r c) c ≡ withoutBom c
-  unspent r h c = ap (λ b. drop (cond b (leadingBom c) 0) c) h
+  unspent r h c = ap (λ b. drop (cond b (leadingBom c) 0) c) h ∙ mark-dropped c
 
   scan-outs : (r : TextInput) (c t : List ℕ) → drop (skipped r c) c ≡ t → scanChars p o r c ≡ outs p o r t
   scan-outs r c t h = ap (outs p o (opened r (length c))) h ∙ outs-marked r _ _ t

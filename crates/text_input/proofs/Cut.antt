@@ -14,7 +14,7 @@ use lib.ListN.{length}
 use native.Mathlib.Omega.{arith}
 use Rattle.text_input.specs.declared.State.{State}
 use Rattle.text_input.specs.declared.State.the-variants.{Cr, Ff, Esc, CsiStart, Csi, Osc, Linux}
-use Rattle.text_input_parts.specs.Sets.{parameter, final, stringEnd, upTo7F}
+use Rattle.text_input_parts.specs.PieceSets.{parameterChar, finalChar, stringLast, lowChar}
 use Rattle.text_input.specs.Pieces.{Kind, lineEnd, pageRun, escape, stringChar}
 use Rattle.text_input.proofs.Recognise.{nothing, false-true, runs, feeds, afterLinux, afterBracket, afterEsc}
 
@@ -47,8 +47,8 @@ tail cr (c ∷ q) = eqb c 0x0A && nothing q
 tail ff q = feeds q
 tail esc q = afterEsc q
 tail csiStart q = afterBracket q
-tail csi q = runs parameter final q
-tail osc q = runs stringChar stringEnd q
+tail csi q = runs parameterChar finalChar q
+tail osc q = runs stringChar stringLast q
 tail linux q = afterLinux q
 
 -- a character within a piece: the piece goes on with it, ends with it, or stops before it
@@ -59,11 +59,11 @@ pub data Move : Type 0 where
 unfoldable pub move : Inner → ℕ → Move
 move cr c = cond (eqb c 0x0A) closes stops
 move ff c = cond (eqb c 0x0C) (goes ff) stops
-move esc c = cond (eqb c 0x5B) (goes csiStart) (cond (eqb c 0x5D) (goes osc) (cond (final c) closes stops))
-move csiStart c = cond (eqb c 0x5B) (goes linux) (cond (parameter c) (goes csi) (cond (final c) closes stops))
-move csi c = cond (parameter c) (goes csi) (cond (final c) closes stops)
-move osc c = cond (stringChar c) (goes osc) (cond (stringEnd c) closes stops)
-move linux c = cond (upTo7F c) closes stops
+move esc c = cond (eqb c 0x5B) (goes csiStart) (cond (eqb c 0x5D) (goes osc) (cond (finalChar c) closes stops))
+move csiStart c = cond (eqb c 0x5B) (goes linux) (cond (parameterChar c) (goes csi) (cond (finalChar c) closes stops))
+move csi c = cond (parameterChar c) (goes csi) (cond (finalChar c) closes stops)
+move osc c = cond (stringChar c) (goes osc) (cond (stringLast c) closes stops)
+move linux c = cond (lowChar c) closes stops
 
 unfoldable pub after : Move → List ℕ → Bool
 after (goes i) q = tail i q

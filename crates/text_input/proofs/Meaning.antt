@@ -29,17 +29,17 @@ use Rattle.text_input.specs.declared.step.Left.the-variants.{Part, Newli
 use Rattle.text_input.specs.declared.step.Met.{Met}
 use Rattle.text_input.specs.declared.step.Met.the-variants.{Line, Opens, Other}
 use Rattle.text_input.specs.declared.step.Step.{Step}
-use Rattle.text_input_parts.specs.Sets.{newlineChar}
-use Rattle.text_input.specs.Sets.{optionalLine}
+use Rattle.text_input_parts.specs.PieceSets.{crOrLf}
 use Rattle.text_input_parts.specs.Appended.{leadChars, imageChars, lastOf, endMarkOf, newlineOf, guardOf}
 use Rattle.text_input.specs.Step.{outChars, madeOf, metOf, leftOf, leaveOf, meetOf}
 use Rattle.text_input.specs.Step.{scanStepOf}
 use Rattle.text_input.specs.Scan.{finishChars, finishNext, afterLine}
 use Rattle.text_input.specs.Inner.{outs, ends}
-use Rattle.text_input.specs.Pieces.{isLine, lineChar, Piece, join, LongestPiece, EachLongest, Reading, pieceImage, image}
+use Rattle.text_input.specs.Pieces.{isLine, optionChar, lineChar, Piece, join, LongestPiece, EachLongest, Reading, pieceImage, image}
 use Rattle.text_input.specs.Pieces.{startMark}
 use Rattle.text_input.specs.Streams.{owedAfter}
 use Rattle.text_input_parts.proofs.Last.{last-append}
+use Rattle.text_input.proofs.Sets.{option-is}
 use Rattle.text_input.proofs.Cut.{Inner, cr, ff, esc, csiStart, csi, osc, linux, stateOf, kindOf, cut}
 use Rattle.text_input.proofs.Unique.{Class, opens, single, class, kindC, tailOf, longest-of, first-unique, no-piece}
 use Rattle.text_input.proofs.Run.{Closed, pre, expectAfter, guard, at, complete, told, onward, guard-line, run-cut}
@@ -109,18 +109,18 @@ module _ (p : List ℕ) (o : Options) (eof start : Bool) (count : ℕ) where
   opened (single k) c e n t = then (isLine k) (pieceImage k (c ∷ []) t) e n t
 
   opened-by : accepted p ≡ true → (b : Bool) (c : ℕ) (t : List ℕ) (e : Bool) (n : ℕ) (d f g a z : Bool) →
-      eqb c 0x0D ≡ d → eqb c 0x0C ≡ f → eqb c 0x1B ≡ g → eqb c 0x0A ≡ a → optionalLine o c ≡ z →
+      eqb c 0x0D ≡ d → eqb c 0x0C ≡ f → eqb c 0x1B ≡ g → eqb c 0x0A ≡ a → optionChar o c ≡ z →
       from (c ∷ t) (Ground b) e n ≡ opened (class o c) c e n t
-  unfolding complete scanStepOf leaveOf meetOf class lineChar newlineChar opened pieceImage
+  unfolding complete scanStepOf leaveOf meetOf class lineChar crOrLf opened pieceImage
   opened-by good b c t e n true f g a z hd hf hg ha hz = rw (eqb-true c 0x0D hd)
   opened-by good b c t e n false true g a z hd hf hg ha hz = rw (eqb-true c 0x0C hf)
   opened-by good b c t e n false false true a z hd hf hg ha hz = rw (eqb-true c 0x1B hg)
   opened-by good b c t e n false false false true z hd hf hg ha hz =
       rw (eqb-true c 0x0A ha) (unfold told expectAfter in rw (guard-line p o eof start count good e))
   opened-by good b c t e n false false false false true hd hf hg ha hz =
-      rw (hd, hf, hg, ha, hz) (unfold told expectAfter in rw (guard-line p o eof start count good e))
+      rw (option-is o c, hd, hf, hg, ha, hz) (unfold told expectAfter in rw (guard-line p o eof start count good e))
   opened-by good b c t e n false false false false false hd hf hg ha hz =
-      rw (hd, hf, hg, ha, hz) (over-other (replaceOf c) e n t)
+      rw (option-is o c, hd, hf, hg, ha, hz) (over-other (replaceOf c) e n t)
 
   over-first : accepted p ≡ true → (c : ℕ) (t : List ℕ) (x : Class) (e : Bool) (n : ℕ) →
       opened x c e n t
@@ -144,7 +144,7 @@ module _ (p : List ℕ) (o : Options) (eof start : Bool) (count : ℕ) where
       let j : x .text ++ t ≡ f .text ++ k .rest = rw (h, k .joined) in
       let u : x ≡ f = first-unique o x f t (k .rest) l (longest-of o c (q ++ t) k) j in
       let v : t ≡ k .rest = append-cancel-left (f .text) t (k .rest) (rw u at j) in
-      opened-by good b c (q ++ t) e n (eqb c 0x0D) (eqb c 0x0C) (eqb c 0x1B) (eqb c 0x0A) (optionalLine o c) refl refl refl refl refl
+      opened-by good b c (q ++ t) e n (eqb c 0x0D) (eqb c 0x0C) (eqb c 0x1B) (eqb c 0x0A) (optionChar o c) refl refl refl refl refl
       ∙ over-first good c (q ++ t) (class o c) e n
       ∙ ap₂ (λ (y : Piece) (z : List ℕ). told-piece y e n z) (sym u) (sym v)
 

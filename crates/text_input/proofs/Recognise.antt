@@ -12,7 +12,7 @@ use mathlib.Core.Path.{_≡_, refl}
 use lib.Dec.{eqb}
 use native.Mathlib.Omega.{arith}
 use borrow.Author.Tests.{eqb-true}
-use Rattle.text_input_parts.specs.Sets.{parameter, final, stringEnd, upTo7F}
+use Rattle.text_input_parts.specs.PieceSets.{parameterChar, finalChar, stringLast, lowChar}
 use Rattle.text_input.specs.Pieces.{Run, PageRun, Escape, stringChar, noBracket}
 
 -- ---- the tests
@@ -34,17 +34,17 @@ feeds (c ∷ q) = eqb c 0x0C && feeds q
 -- after 1B `[` `[`
 unfoldable pub afterLinux : List ℕ → Bool
 afterLinux [] = true
-afterLinux (c ∷ q) = upTo7F c && nothing q
+afterLinux (c ∷ q) = lowChar c && nothing q
 
 -- after 1B `[`
 unfoldable pub afterBracket : List ℕ → Bool
 afterBracket [] = true
-afterBracket (c ∷ q) = cond (eqb c 0x5B) (afterLinux q) (runs parameter final (c ∷ q))
+afterBracket (c ∷ q) = cond (eqb c 0x5B) (afterLinux q) (runs parameterChar finalChar (c ∷ q))
 
 -- after 1B
 unfoldable pub afterEsc : List ℕ → Bool
 afterEsc [] = true
-afterEsc (c ∷ q) = cond (eqb c 0x5B) (afterBracket q) (cond (eqb c 0x5D) (runs stringChar stringEnd q) (final c && nothing q))
+afterEsc (c ∷ q) = cond (eqb c 0x5B) (afterBracket q) (cond (eqb c 0x5D) (runs stringChar stringLast q) (finalChar c && nothing q))
 
 -- ---- small laws
 pub false-true : {A : Type 0} → false ≡ true → A
@@ -78,12 +78,12 @@ unfolding feeds
 feeds-all PageRun.one = refl
 feeds-all (PageRun.more r) = feeds-all r
 
-bracket-by : (c : ℕ) (q : List ℕ) (b : Bool) → not b ≡ true → runs parameter final (c ∷ q) ≡ true →
-    cond b (afterLinux q) (runs parameter final (c ∷ q)) ≡ true
+bracket-by : (c : ℕ) (q : List ℕ) (b : Bool) → not b ≡ true → runs parameterChar finalChar (c ∷ q) ≡ true →
+    cond b (afterLinux q) (runs parameterChar finalChar (c ∷ q)) ≡ true
 bracket-by c q true e h = false-true e
 bracket-by c q false e h = h
 
-pub bracket-of : (q : List ℕ) → noBracket q ≡ true → runs parameter final q ≡ true → afterBracket q ≡ true
+pub bracket-of : (q : List ℕ) → noBracket q ≡ true → runs parameterChar finalChar q ≡ true → afterBracket q ≡ true
 unfolding afterBracket
 bracket-of [] e h = refl
 bracket-of (c ∷ q) e h = bracket-by c q (eqb c 0x5B) e h
@@ -103,12 +103,12 @@ linux-of : (q : List ℕ) → afterLinux q ≡ true → Escape (0x1B ∷ 0x5B �
 unfolding afterLinux
 linux-of [] h = Escape.linux
 linux-of (c ∷ q) h =
-    rw (no-more q (and-right (upTo7F c) (nothing q) h)) (Escape.linuxChar (and-left (upTo7F c) (nothing q) h))
+    rw (no-more q (and-right (lowChar c) (nothing q) h)) (Escape.linuxChar (and-left (lowChar c) (nothing q) h))
 
-control-of : (c : ℕ) (q : List ℕ) (b : Bool) → eqb c 0x5B ≡ b → cond b (afterLinux q) (runs parameter final (c ∷ q)) ≡ true →
+control-of : (c : ℕ) (q : List ℕ) (b : Bool) → eqb c 0x5B ≡ b → cond b (afterLinux q) (runs parameterChar finalChar (c ∷ q)) ≡ true →
     Escape (0x1B ∷ 0x5B ∷ c ∷ q)
 control-of c q true e h = rw (eqb-true c 0x5B e) (linux-of q h)
-control-of c q false e h = Escape.control {q = c ∷ q} (rw e) (run-of parameter final (c ∷ q) h)
+control-of c q false e h = Escape.control {q = c ∷ q} (rw e) (run-of parameterChar finalChar (c ∷ q) h)
 
 after-of : (q : List ℕ) → afterBracket q ≡ true → Escape (0x1B ∷ 0x5B ∷ q)
 unfolding afterBracket
@@ -116,11 +116,11 @@ after-of [] h = Escape.control refl Run.done
 after-of (c ∷ q) h = control-of c q (eqb c 0x5B) refl h
 
 escape-by : (c : ℕ) (q : List ℕ) (a b : Bool) → eqb c 0x5B ≡ a → eqb c 0x5D ≡ b →
-    cond a (afterBracket q) (cond b (runs stringChar stringEnd q) (final c && nothing q)) ≡ true → Escape (0x1B ∷ c ∷ q)
+    cond a (afterBracket q) (cond b (runs stringChar stringLast q) (finalChar c && nothing q)) ≡ true → Escape (0x1B ∷ c ∷ q)
 escape-by c q true b e f h = rw (eqb-true c 0x5B e) (after-of q h)
-escape-by c q false true e f h = rw (eqb-true c 0x5D f) (Escape.string (run-of stringChar stringEnd q h))
+escape-by c q false true e f h = rw (eqb-true c 0x5D f) (Escape.string (run-of stringChar stringLast q h))
 escape-by c q false false e f h =
-    rw (no-more q (and-right (final c) (nothing q) h)) (Escape.two (and-left (final c) (nothing q) h) e f)
+    rw (no-more q (and-right (finalChar c) (nothing q) h)) (Escape.two (and-left (finalChar c) (nothing q) h) e f)
 
 pub escape-of : (q : List ℕ) → afterEsc q ≡ true → Escape (0x1B ∷ q)
 unfolding afterEsc

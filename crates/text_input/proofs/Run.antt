@@ -25,11 +25,13 @@ use Rattle.text_input.specs.declared.step.Left.the-variants.{Part, Ends,
 use Rattle.text_input.specs.declared.step.Met.{Met}
 use Rattle.text_input.specs.declared.step.Met.the-variants.{Line, Opens, Other}
 use Rattle.text_input.specs.declared.step.Step.{Step}
-use Rattle.text_input_parts.specs.Sets.{parameter, final, stringEnd, upTo7F, newlineChar}
+use Rattle.text_input_parts.specs.Sets.{newlineChar}
+use Rattle.text_input_parts.specs.PieceSets.{parameterChar, finalChar, stringLast, lowChar, crOrLf}
 use Rattle.text_input_parts.specs.Appended.{lastOf}
 use Rattle.text_input.specs.Step.{outChars, metOf, leftOf, leaveOf, meetOf, scanStepOf}
 use Rattle.text_input.specs.Scan.{finishChars, afterLine}
 use Rattle.text_input.specs.Pieces.{Kind, escape, isLine, stringChar, pieceImage, pageImage}
+use Rattle.text_input_parts.proofs.PieceSets.{parameter-is, final-is, string-end-is, up-to-is}
 use Rattle.text_input.proofs.Recognise.{cond-id}
 use Rattle.text_input.proofs.Cut.{Inner, cr, ff, esc, csiStart, csi, osc, linux, stateOf, kindOf, Move, goes, closes, stops}
 use Rattle.text_input.proofs.Cut.{move, Cut, cut, cut-by}
@@ -180,17 +182,17 @@ module _ (p : List ℕ) (o : Options) (eof start : Bool) (count : ℕ) where
 
   -- with the character or before it
   run-final : (i : Inner) (c : ℕ) (t : List ℕ) (e : Bool) (n : ℕ) → kindOf i ≡ escape →
-      cond (final c) (leave i e n c t (Part (Ground false))) (leave i e n c t Ends)
-      ≡ cond (final c) (follow i closes e n c t) (follow i stops e n c t)
+      cond (finalChar c) (leave i e n c t (Part (Ground false))) (leave i e n c t Ends)
+      ≡ cond (finalChar c) (follow i closes e n c t) (follow i stops e n c t)
   run-final i c t e n h =
-      cond-cong (final c) _ _ _ _ (λ d. unfold leave follow onward told resume pieceImage guard expectAfter in rw h)
+      cond-cong (finalChar c) _ _ _ _ (λ d. unfold leave follow onward told resume pieceImage guard expectAfter in rw h)
       (λ d. run-stops i c t e n h)
 
   run-csi : (i : Inner) (c : ℕ) (t : List ℕ) (e : Bool) (n : ℕ) → kindOf i ≡ escape →
-      cond (parameter c) (leave i e n c t (Part Csi)) (cond (final c) (leave i e n c t (Part (Ground false))) (leave i e n c t Ends))
-      ≡ cond (parameter c) (follow i (goes csi) e n c t) (cond (final c) (follow i closes e n c t) (follow i stops e n c t))
+      cond (parameterChar c) (leave i e n c t (Part Csi)) (cond (finalChar c) (leave i e n c t (Part (Ground false))) (leave i e n c t Ends))
+      ≡ cond (parameterChar c) (follow i (goes csi) e n c t) (cond (finalChar c) (follow i closes e n c t) (follow i stops e n c t))
   run-csi i c t e n h =
-      cond-cong (parameter c) _ _ _ _ (λ g. unfold leave follow resume in refl) (λ g. run-final i c t e n h)
+      cond-cong (parameterChar c) _ _ _ _ (λ g. unfold leave follow resume in refl) (λ g. run-final i c t e n h)
 
   run-osc : (c : ℕ) (t : List ℕ) (e : Bool) (n : ℕ) (b z : Bool) →
       cond b (leave osc e n c t (Part (Ground false))) (cond z (leave osc e n c t Ends) (leave osc e n c t (Part Osc)))
@@ -211,7 +213,7 @@ module _ (p : List ℕ) (o : Options) (eof start : Bool) (count : ℕ) where
 
   run-ff : accepted p ≡ true → (c : ℕ) (t : List ℕ) (e : Bool) (n : ℕ) (y x : Bool) → eqb c 0x0A ≡ y → eqb c 0x0D ≡ x →
       cond (y || x) (leave ff e n c t Dropped) (leave ff e n c t (After 0x20)) ≡ follow ff stops e n c t
-  unfolding follow onward told pieceImage pageImage newlineChar
+  unfolding follow onward told pieceImage pageImage crOrLf
   run-ff good c t e n true x h g =
       leave-dropped ff false e n c t ∙ rw (eqb-true c 0x0A h) (unfold complete scanStepOf leaveOf meetOf guard expectAfter in refl)
   run-ff good c t e n false true h g =
@@ -233,18 +235,18 @@ module _ (p : List ℕ) (o : Options) (eof start : Bool) (count : ℕ) where
       (cond-cong (eqb c 0x0C) _ _ _ _ (λ h. unfold leave follow resume in refl)
       (λ h. run-ff good c t e n (eqb c 0x0A) (eqb c 0x0D) refl refl))
   run good esc c t e n =
-      simp (leave-cond, follow-cond)
+      simp (leave-cond, follow-cond, final-is)
       (cond-cong (eqb c 0x5B) _ _ _ _ (λ h. unfold leave follow resume in refl)
       (λ h. cond-cong (eqb c 0x5D) _ _ _ _ (λ g. unfold leave follow resume in refl)
       (λ g. run-final esc c t e n refl)))
   run good csiStart c t e n =
-      simp (leave-cond, follow-cond)
+      simp (leave-cond, follow-cond, parameter-is, final-is)
       (cond-cong (eqb c 0x5B) _ _ _ _ (λ h. unfold leave follow resume in refl) (λ h. run-csi csiStart c t e n refl))
-  run good csi c t e n = simp (leave-cond, follow-cond) (run-csi csi c t e n refl)
-  run good osc c t e n = simp (leave-cond, follow-cond) (run-osc c t e n (stringEnd c) (eqb c 0x1B))
+  run good csi c t e n = simp (leave-cond, follow-cond, parameter-is, final-is) (run-csi csi c t e n refl)
+  run good osc c t e n = simp (leave-cond, follow-cond, string-end-is) (run-osc c t e n (stringLast c) (eqb c 0x1B))
   run good linux c t e n =
-      simp (leave-cond, follow-cond)
-      (cond-cong (upTo7F c) _ _ _ _ (λ h. unfold leave follow onward told resume pieceImage guard expectAfter in refl)
+      simp (leave-cond, follow-cond, up-to-is)
+      (cond-cong (lowChar c) _ _ _ _ (λ h. unfold leave follow onward told resume pieceImage guard expectAfter in refl)
       (λ h. run-stops linux c t e n refl))
 
   -- ---- at the end of the text

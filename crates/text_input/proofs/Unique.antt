@@ -17,9 +17,8 @@ use lib.ListN.{length, length-append}
 use borrow.Author.Tests.{eqb-true}
 use native.Mathlib.Omega.{arith}
 use Rattle.text_input.specs.declared.Options.{Options}
-use Rattle.text_input_parts.specs.Sets.{newlineChar}
-use Rattle.text_input.specs.Sets.{optionalLine}
-use Rattle.text_input.specs.Pieces.{Kind, lineEnd, pageRun, escape, other, lineChar, LineEnd, PageRun, Escape, Other, Allowed}
+use Rattle.text_input_parts.specs.PieceSets.{crOrLf}
+use Rattle.text_input.specs.Pieces.{Kind, lineEnd, pageRun, escape, other, optionChar, lineChar, LineEnd, PageRun, Escape, Other, Allowed}
 use Rattle.text_input.specs.Pieces.{Piece, join, LongestPiece, EachLongest, Reading}
 use Rattle.text_input.proofs.Recognise.{nothing, false-true, and-left, and-right, no-more, feeds, afterEsc, afterBracket}
 use Rattle.text_input.proofs.Recognise.{afterLinux, runs-of, feeds-all, bracket-of, page-of, escape-of}
@@ -56,21 +55,17 @@ one-by : (o : Options) (c : ℕ) (d f g : Bool) → eqb c 0x0D ≡ d → eqb c 0
     Begun o lineEnd (c ∷ [])
 unfolding Begun class kindC restC tail
 one-by o c true f g hd hf hg h = rw (eqb-true c 0x0D hd) (refl, refl)
-one-by o c false true g hd hf hg h = unfold lineChar newlineChar optionalLine in false-true (rw (eqb-true c 0x0C hf) at h)
-one-by o c false false true hd hf hg h = unfold lineChar newlineChar optionalLine in false-true (rw (eqb-true c 0x1B hg) at h)
+one-by o c false true g hd hf hg h = unfold lineChar crOrLf optionChar in false-true (rw (eqb-true c 0x0C hf) at h)
+one-by o c false false true hd hf hg h = unfold lineChar crOrLf optionChar in false-true (rw (eqb-true c 0x1B hg) at h)
 one-by o c false false false hd hf hg h = rw (hd, hf, hg, h) (refl, refl)
 
 or-left : (a b : Bool) → a || b ≡ false → a ≡ false
 or-left true b h = h
 or-left false b h = refl
 
-or-right : (a b : Bool) → a || b ≡ false → b ≡ false
-or-right true b h = false-true (sym h)
-or-right false b h = h
-
 no-cr : (o : Options) (c : ℕ) → lineChar o c ≡ false → eqb c 0x0D ≡ false
-unfolding lineChar newlineChar
-no-cr o c h = or-right (eqb c 0x0A) (eqb c 0x0D) (or-left (newlineChar c) (optionalLine o c) h)
+unfolding lineChar crOrLf
+no-cr o c h = or-left (eqb c 0x0D) (eqb c 0x0A) (or-left (crOrLf c) (optionChar o c) h)
 
 begun : (o : Options) (k : Kind) (w : List ℕ) → Allowed o k w → Begun o k w
 unfolding Begun class kindC restC tail feeds afterEsc afterBracket afterLinux
@@ -87,7 +82,7 @@ begun o escape w Escape.alone = (refl, refl)
 begun o other w (Other.one {c = c} a f g) = rw (no-cr o c a, f, g, a) (refl, refl)
 
 built-cr : (o : Options) (q : List ℕ) → tail cr q ≡ true → LineEnd o (0x0D ∷ q)
-unfolding tail lineChar newlineChar
+unfolding tail lineChar crOrLf
 built-cr o [] h = LineEnd.one refl
 built-cr o (d ∷ q) h =
     rw (eqb-true d 0x0A (and-left (eqb d 0x0A) (nothing q) h), no-more q (and-right (eqb d 0x0A) (nothing q) h)) LineEnd.both

@@ -5,6 +5,7 @@
 pub mod Sets
 pub mod Step
 pub mod Scan
+pub mod Refusals
 pub mod Pieces
 pub mod Streams
 pub mod Inner

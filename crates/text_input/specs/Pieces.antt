@@ -8,16 +8,21 @@ use lib.ListN.{length}
 use Rattle.replace.specs.Replace.{chars, replaceOf}
 use Rattle.text_utils.specs.Classes.{basicTextStart, basicTextEnd}
 use Rattle.text_input.specs.declared.Options.{Options}
-use Rattle.text_input_parts.specs.Sets.{parameter, final, stringEnd, upTo7F, newlineChar}
-use Rattle.text_input.specs.Sets.{optionalLine}
+use Rattle.text_input_parts.specs.PieceSets.{parameterChar, finalChar, stringLast, lowChar, crOrLf}
 
 pub data Kind : Type 0 where
   lineEnd pageRun escape other : Kind
 
 -- ---- the pieces that the rules allow
+-- The sets of characters are those of `text_input_parts`, specs/PieceSets.antt, and the one that follows; the steps have sets of their
+-- own, and each pair is proved equal for every number.
+-- "with its option 85, or 2028 and 2029"
+unfoldable pub optionChar : Options → ℕ → Bool
+optionChar o c = (eqb c 0x85 && o .«nel_compatibility») || ((eqb c 0x2028 || eqb c 0x2029) && o .«lsps_compatibility»)
+
 -- a line end of one character: "0D, 0A; with its option 85, or 2028 and 2029"
 unfoldable pub lineChar : Options → ℕ → Bool
-lineChar o c = newlineChar c || optionalLine o c
+lineChar o c = crOrLf c || optionChar o c
 
 -- "Line end: 0D 0A, 0D, 0A; with its option 85, or 2028 and 2029."
 pub data LineEnd (o : Options) : List ℕ → Type 0 where
@@ -37,7 +42,7 @@ pub data Run (p f : ℕ → Bool) : List ℕ → Type 0 where
 
 -- none of 07, 18 and 1B
 unfoldable pub stringChar : ℕ → Bool
-stringChar c = not (stringEnd c) && not (eqb c 0x1B)
+stringChar c = not (stringLast c) && not (eqb c 0x1B)
 
 -- q does not begin with `[`
 abbrev pub noBracket : List ℕ → Bool
@@ -56,10 +61,10 @@ noBracket (c ∷ q) = not (eqb c 0x5B)
 -- leave out 1B, so that it ends before one.
 pub data Escape : List ℕ → Type 0 where
   linux : Escape (0x1B ∷ 0x5B ∷ 0x5B ∷ [])
-  linuxChar : {c : ℕ} → upTo7F c ≡ true → Escape (0x1B ∷ 0x5B ∷ 0x5B ∷ c ∷ [])
-  control : {q : List ℕ} → noBracket q ≡ true → Run parameter final q → Escape (0x1B ∷ 0x5B ∷ q)
-  string : {q : List ℕ} → Run stringChar stringEnd q → Escape (0x1B ∷ 0x5D ∷ q)
-  two : {c : ℕ} → final c ≡ true → eqb c 0x5B ≡ false → eqb c 0x5D ≡ false → Escape (0x1B ∷ c ∷ [])
+  linuxChar : {c : ℕ} → lowChar c ≡ true → Escape (0x1B ∷ 0x5B ∷ 0x5B ∷ c ∷ [])
+  control : {q : List ℕ} → noBracket q ≡ true → Run parameterChar finalChar q → Escape (0x1B ∷ 0x5B ∷ q)
+  string : {q : List ℕ} → Run stringChar stringLast q → Escape (0x1B ∷ 0x5D ∷ q)
+  two : {c : ℕ} → finalChar c ≡ true → eqb c 0x5B ≡ false → eqb c 0x5D ≡ false → Escape (0x1B ∷ c ∷ [])
   alone : Escape (0x1B ∷ [])
 
 -- "Any other character": one that begins none of these
@@ -100,7 +105,7 @@ pub record Reading (o : Options) (text : List ℕ) (xs : List Piece) : Type 0 wh
 -- so "giving a page run its space before 0D" does not pass
 unfoldable pub pageImage : List ℕ → List ℕ
 pageImage [] = 0x20 ∷ []
-pageImage (d ∷ rest) = cond (newlineChar d) [] (0x20 ∷ [])
+pageImage (d ∷ rest) = cond (crOrLf d) [] (0x20 ∷ [])
 
 -- a piece's, by its kind, its characters and what follows: a line end's is 0A, an escape's empty, any other character's "its
 -- replacement"

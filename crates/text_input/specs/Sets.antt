@@ -1,6 +1,5 @@
--- The line ends that an option adds, which the steps (specs/Step.antt) and the pieces (specs/Pieces.antt) share. The other sets that
--- they share are those of `text_input_parts`. proofs/Pins.antt holds this one at its bounds, so that a wrong one is refused though both
--- follow it.
+-- The line ends that an option adds, by which the steps go (specs/Step.antt). The pieces have theirs (`optionChar`, specs/Pieces.antt),
+-- which proofs/Sets.antt proves equal. The other sets of the steps are those of `text_input_parts`.
 use Prim.Native.Nat.{ℕ}
 use mathlib.Core.Bool.{Bool, _&&_, _||_}
 use lib.Dec.{eqb}

@@ -4,11 +4,11 @@
 use Prim.Native.Nat.{ℕ}
 use mathlib.Core.Bool.{Bool, true, false, cond, not, _&&_}
 use mathlib.Core.List.{List, [], _∷_, _++_, flatten}
-use lib.ListN.{drop}
+use lib.Dec.{eqb}
 use Rattle.text_input.specs.declared.Options.{Options}
 use Rattle.text_input.specs.declared.TextInput.{TextInput}
 use Rattle.text_input_parts.specs.Appended.{leadChars, lastOf, endMarkOf, newlineOf}
-use Rattle.text_input.specs.Scan.{leadingBom, scanChars, scanNext, finishChars, finishNext}
+use Rattle.text_input.specs.Scan.{scanChars, scanNext, finishChars, finishNext}
 use Rattle.text_input.specs.Pieces.{Piece, Reading, image, startMark, isLine}
 
 -- ---- the calls
@@ -47,7 +47,8 @@ streamText (s ∷ ss) = flatten (s .chunks) ++ streamText ss
 
 -- the chunk without a U+FEFF that begins it
 abbrev pub withoutBom : List ℕ → List ℕ
-withoutBom chunk = drop (leadingBom chunk) chunk
+withoutBom [] = []
+withoutBom (c ∷ cs) = cond (eqb c 0xFEFF) cs (c ∷ cs)
 
 -- "U+FEFF is dropped only as the first character of the first call": the first chunk loses it, and no other
 abbrev pub withoutBomFirst : List (List ℕ) → List (List ℕ)

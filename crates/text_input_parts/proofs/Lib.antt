@@ -1,4 +1,7 @@
--- The laws of this crate: the last character appended, refusals that are none, and the sets and the room rule held at their bounds.
+-- The laws of this crate: the last character appended and where 34F goes, refusals that are none and the order of refusals, and the sets
+-- of the steps, which are those of the pieces.
 pub mod Last
+pub mod Marks
 pub mod Passed
-pub mod Pins
+pub mod Order
+pub mod PieceSets
