@@ -1,5 +1,7 @@
--- Demand 3 with what leads to it; the cases checked by hand.
+-- Demand 3 with what leads to it; the cases checked by hand, and the worked list of calls.
 pub mod Holds
+pub mod Accepts
 pub mod Listed
 pub mod Demand
 pub mod Cases
+pub mod Worked

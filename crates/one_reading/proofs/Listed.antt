@@ -1,18 +1,17 @@
 -- A list of calls, refused ones in between, comes to scans of the accepted chunks and a finish. A call is accepted exactly where its
--- refusal's number is 0, and what the definition of the call then gives is what these scans and this finish give; a refused call
--- gives the record back. So it goes by the list, with the record's count for the characters accepted so far.
+-- refusal's number is 0 (proofs/Accepts.antt), and what the definition of the call then gives is what these scans and this finish
+-- give; a refused call gives the record back. So it goes by the list, with the record's count for the characters accepted so far.
 --     queue-listed    the queue is what scans of the accepted chunks and the finish append
 --     count-listed    the count is the number of characters in the accepted chunks, whatever the calls bring
 --     chars-listed    the accepted chunks are characters
 use Prim.Native.Nat.{ℕ, _+_, _≤_}
 use mathlib.Core.Bool.{Bool, true, false, cond}
 use mathlib.Core.List.{List, [], _∷_, _++_, append-assoc, append-nil, flatten}
-use mathlib.Core.Path.{_≡_, refl, sym, _∙_}
+use mathlib.Core.Path.{_≡_, refl, ap, sym, _∙_}
 use native.Mathlib.Omega.{arith}
 use lib.Dec.{eqb, ltb}
 use lib.ListN.{length, drop, length-append}
 use lib.Seq.{sets}
-use borrow.Author.Tests.{eqb-true}
 use Rattle.common.proofs.Lists.{take-first}
 use Rattle.unicode.specs.Chars.{areChars}
 use Rattle.page.specs.Page.{accepted}
@@ -25,8 +24,9 @@ use Rattle.text_input.specs.Streams.{scansChars, scansNext}
 use Rattle.text_input_parts.proofs.Passed.{ChunkPassed, passed, room-passed}
 use Rattle.text_input.proofs.Meaning.{ends-count}
 use Rattle.text_input.proofs.Room.{scan-room, finish-room}
+use Rattle.one_reading.proofs.Accepts.{refusalBy, accepts-is, accepted-none}
 use Rattle.one_reading.proofs.Holds.{chars-append}
-use Rattle.one_reading.specs.Calls.{Call, scan, finish, callOf, Seen, queueOf, recordAfter, refusalBy, countWith, acceptedFrom, chunksOf, FinishedOnce}
+use Rattle.one_reading.specs.Calls.{Call, scan, finish, callOf, Seen, queueOf, recordAfter, accepts, countWith, acceptedFrom, chunksOf, FinishedOnce}
 
 -- ---- one call, by whether it is accepted
 -- what an accepted call gives: the record after, and what it appends
@@ -51,9 +51,12 @@ finish-is : (b : Bool) (r : TextInput) (eof : Bool) (places : List ℕ) →
 finish-is true r eof places = refl
 finish-is false r eof places = refl
 
-call-is : (r : TextInput) (c : Call) → callOf r c ≡ outcomeBy (eqb (refusalBy (r .count) c) 0) r c
-call-is r (scan p o chunk places) = unfold scanOf in refl
-call-is r (finish eof places) = unfold finishOf in finish-is (ltb (length places) 2) r eof places
+call-by : (r : TextInput) (c : Call) → callOf r c ≡ outcomeBy (eqb (refusalBy (r .count) c) 0) r c
+call-by r (scan p o chunk places) = unfold scanOf in refl
+call-by r (finish eof places) = unfold finishOf in finish-is (ltb (length places) 2) r eof places
+
+call-is : (r : TextInput) (c : Call) → callOf r c ≡ outcomeBy (accepts (r .count) c) r c
+call-is r c = call-by r c ∙ ap (λ b. outcomeBy b r c) (sym (accepts-is (r .count) c))
 
 wrote-is : (out places : List ℕ) → length out ≤ length places → wroteIn (0 ∷ length out ∷ []) (sets places 0 out) ≡ out
 wrote-is out places h = take-first out places (length out) refl h
@@ -103,23 +106,23 @@ count-listed [] r [] h = omega arith
 count-listed [] r (s ∷ seen) h = absurd h
 count-listed (c ∷ cs) r [] h = absurd h
 count-listed (c ∷ cs) r (s ∷ seen) h =
-    let e : s ≡ outcomeBy (eqb (refusalBy (r .count) c) 0) r c = h .0 ∙ call-is r c in
-    rw e (count-by (eqb (refusalBy (r .count) c) 0) c cs r seen (λ n g. count-listed cs n seen g) (rw e at (h .1)))
+    let e : s ≡ outcomeBy (accepts (r .count) c) r c = h .0 ∙ call-is r c in
+    rw e (count-by (accepts (r .count) c) c cs r seen (λ n g. count-listed cs n seen g) (rw e at (h .1)))
 
 -- ---- the accepted chunks are characters
-chars-by : (b : Bool) (n : ℕ) (c : Call) (cs : List Call) → eqb (refusalBy n c) 0 ≡ b →
+chars-by : (b : Bool) (n : ℕ) (c : Call) (cs : List Call) → accepts n c ≡ b →
     ((m : ℕ) → areChars (flatten (chunksOf (acceptedFrom m cs))) ≡ true) → areChars (flatten (chunksOf (leftBy b n c cs))) ≡ true
 unfolding flatten
 chars-by true n (scan p o chunk places) cs e ih =
     chars-append chunk (flatten (chunksOf (acceptedFrom (n + length chunk) cs)))
-    (scan-passed n p chunk (length places) (eqb-true _ 0 e) .0 .are-chars) (ih (n + length chunk))
+    (scan-passed n p chunk (length places) (accepted-none n (scan p o chunk places) e) .0 .are-chars) (ih (n + length chunk))
 chars-by true n (finish eof places) cs e ih = ih n
 chars-by false n c cs e ih = ih n
 
 pub chars-listed : (calls : List Call) (n : ℕ) → areChars (flatten (chunksOf (acceptedFrom n calls))) ≡ true
 unfolding acceptedFrom flatten
 chars-listed [] n = refl
-chars-listed (c ∷ cs) n = chars-by (eqb (refusalBy n c) 0) n c cs refl (λ m. chars-listed cs m)
+chars-listed (c ∷ cs) n = chars-by (accepts n c) n c cs refl (λ m. chars-listed cs m)
 
 -- ---- where no call is accepted, nothing is written
 none-by : (b : Bool) (c : Call) (cs : List Call) (r : TextInput) (seen : List Outcome) → leftBy b (r .count) c cs ≡ [] →
@@ -135,8 +138,8 @@ none-listed [] r [] h n = refl
 none-listed [] r (s ∷ seen) h n = absurd h
 none-listed (c ∷ cs) r [] h n = absurd h
 none-listed (c ∷ cs) r (s ∷ seen) h n =
-    let e : s ≡ outcomeBy (eqb (refusalBy (r .count) c) 0) r c = h .0 ∙ call-is r c in
-    rw e (none-by (eqb (refusalBy (r .count) c) 0) c cs r seen n (λ m g. none-listed cs r seen g m) (rw e at (h .1)))
+    let e : s ≡ outcomeBy (accepts (r .count) c) r c = h .0 ∙ call-is r c in
+    rw e (none-by (accepts (r .count) c) c cs r seen n (λ m g. none-listed cs r seen g m) (rw e at (h .1)))
 
 -- ---- the queue
 module _ (page : List ℕ) (options : Options) where
@@ -159,18 +162,18 @@ module _ (page : List ℕ) (options : Options) where
       let e : queueOf seen ≡ wholeFrom next ts = rw k at (ih next g (rw k h)) in
       rw e (sym (append-assoc (scanChars page options r chunk) (scansChars page options next ts) (finishChars (scansNext page options next ts) true)))
 
-  queue-by : (b : Bool) (c : Call) (cs : List Call) (seen : List Outcome) (r : TextInput) → eqb (refusalBy (r .count) c) 0 ≡ b → Queued cs seen →
+  queue-by : (b : Bool) (c : Call) (cs : List Call) (seen : List Outcome) (r : TextInput) → accepts (r .count) c ≡ b → Queued cs seen →
       Seen (outcomeBy b r c .next) cs seen → FinishedOnce page options (leftBy b (r .count) c cs) →
       wroteIn (outcomeBy b r c .numbers) (outcomeBy b r c .places) ++ queueOf seen ≡ wholeFrom r (chunksOf (leftBy b (r .count) c cs))
   queue-by true (scan p o chunk places) cs seen r b ih g h =
       let e : p ≡ page = h .0 in
       let d : o ≡ options = h .1 in
-      let f = rw (e, d) at (chars-fit r (scan p o chunk places) (eqb-true _ 0 b)) in
+      let f = rw (e, d) at (chars-fit r (scan p o chunk places) (accepted-none (r .count) (scan p o chunk places) b)) in
       rw (e, d, wrote-is (scanChars page options r chunk) places f) (scan-queued chunk places cs seen r ih (rw (e, d) at g) (h .2))
   queue-by true (finish eof places) cs seen r b ih g h =
       let e : eof ≡ true = h .0 in
       let n : queueOf seen ≡ [] = none-listed cs (finishNext r eof) seen g (h .1) in
-      let f = rw e at (chars-fit r (finish eof places) (eqb-true _ 0 b)) in
+      let f = rw e at (chars-fit r (finish eof places) (accepted-none (r .count) (finish eof places) b)) in
       rw (e, wrote-is (finishChars r true) places f, n, h .1) (unfold scansChars scansNext in append-nil (finishChars r true))
   queue-by false c cs seen r b ih g h = ih r g h
 
@@ -180,5 +183,5 @@ module _ (page : List ℕ) (options : Options) where
   queue-listed [] (s ∷ seen) r h f = absurd h
   queue-listed (c ∷ cs) [] r h f = absurd h
   queue-listed (c ∷ cs) (s ∷ seen) r h f =
-      let e : s ≡ outcomeBy (eqb (refusalBy (r .count) c) 0) r c = h .0 ∙ call-is r c in
-      rw e (queue-by (eqb (refusalBy (r .count) c) 0) c cs seen r refl (queue-listed cs seen) (rw e at (h .1)) f)
+      let e : s ≡ outcomeBy (accepts (r .count) c) r c = h .0 ∙ call-is r c in
+      rw e (queue-by (accepts (r .count) c) c cs seen r refl (queue-listed cs seen) (rw e at (h .1)) f)

@@ -1,15 +1,17 @@
 -- A list of calls on a scanner's record, and what a caller sees of it. Document 01, "Agreed between us": "Demand 3 is one statement
 -- about the whole list of calls, and not a statement for each call."
-use Prim.Native.Nat.{ℕ, _+_}
-use mathlib.Core.Bool.{Bool, true, cond}
+use Prim.Native.Nat.{ℕ, _+_, _*_}
+use mathlib.Core.Bool.{Bool, true, cond, _&&_, _||_}
 use mathlib.Core.List.{List, [], _∷_, _++_, flatten}
 use mathlib.Core.Path.{_≡_}
-use lib.Dec.{eqb}
+use lib.Dec.{eqb, leb}
 use lib.ListN.{length}
 use Rattle.text_input.specs.declared.Options.{Options}
 use Rattle.text_input.specs.declared.TextInput.{TextInput}
-use Rattle.common.specs.Answers.{wroteIn, roomRefusal}
-use Rattle.text_input.specs.Scan.{Outcome, scanRefusal, scanOf, finishOf}
+use Rattle.common.specs.Answers.{wroteIn}
+use Rattle.unicode.specs.Chars.{areChars}
+use Rattle.page.specs.Page.{accepted}
+use Rattle.text_input.specs.Scan.{Outcome, scanOf, finishOf}
 use Rattle.text_input.specs.Streams.{withoutBomFirst}
 
 -- ---- the calls
@@ -44,10 +46,13 @@ recordAfter r (s ∷ seen) = recordAfter (s .next) seen
 
 -- ---- which calls are accepted
 -- "The refusal conditions alone decide which calls are accepted, with the number of characters in the chunks accepted so far as the
--- count." The number of the refusal, and 0 for none.
-abbrev pub refusalBy : ℕ → Call → ℕ
-refusalBy count (scan page options chunk places) = scanRefusal count page chunk (length places)
-refusalBy count (finish eof places) = roomRefusal 2 (length places)
+-- count." They are written out, and not asked of the calls; `accepts-told` (proofs/Accepts.antt) says that the calls go by them.
+-- A scan: the page is accepted, every value is a character, the count does not pass 4,294,967,295, and the places are 3 × n + 1 for n
+-- characters, any for an empty chunk. A finish: "Free places needed: 2."
+abbrev pub accepts : ℕ → Call → Bool
+accepts count (scan page options chunk places) =
+    accepted page && (areChars chunk && (leb (count + length chunk) 4294967295 && (eqb (length chunk) 0 || leb (3 * length chunk + 1) (length places))))
+accepts count (finish eof places) = leb 2 (length places)
 
 -- the count with an accepted call's characters
 abbrev pub countWith : ℕ → Call → ℕ
@@ -59,7 +64,7 @@ countWith count (finish eof places) = count
 unfoldable pub acceptedFrom : ℕ → List Call → List Call
 acceptedFrom count [] = []
 acceptedFrom count (c ∷ calls) =
-    cond (eqb (refusalBy count c) 0) (c ∷ acceptedFrom (countWith count c) calls) (acceptedFrom count calls)
+    cond (accepts count c) (c ∷ acceptedFrom (countWith count c) calls) (acceptedFrom count calls)
 
 -- ---- the text
 abbrev pub chunksOf : List Call → List (List ℕ)

@@ -134,7 +134,7 @@ pub passes-by : (m : Mode) (p q xs : List ℕ) → accepted p ≡ true → areCh
     length xs ≤ 3 * length q → runIn m p freshMachine q ≡ goes xs freshMachine → PassesIn m p q xs
 passes-by m p q xs a c s fits go places room wrote w closed d =
     let rest = drop (length xs) places in
-    let runs = write-runs (fresh m) p q places refl a c room in
+    let runs = write-runs (fresh m) p q places refl a c (omega arith) in
     let stored = sets-first xs places (omega arith) in
     let handed = hands-out p m true freshMachine xs rest s in
     rw (d, w)

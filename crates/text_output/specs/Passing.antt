@@ -1,6 +1,6 @@
 -- What it is for a queue to pass a fresh writer in one write, and the writer then to close. Document 01, "Agreed between us" and
 -- "Characters go out". Characters are hexadecimal.
-use Prim.Native.Nat.{ℕ, _≤_}
+use Prim.Native.Nat.{ℕ, _*_, _≤_}
 use mathlib.Core.Bool.{false}
 use mathlib.Core.Path.{_≡_}
 use mathlib.Core.List.{List, [], _∷_, _++_, map}
@@ -8,7 +8,7 @@ use lib.ListN.{length, take}
 use Rattle.isolate_unassigned.specs.Meaning.{isolated}
 use Rattle.text_output.specs.declared.Mode.{Mode}
 use Rattle.text_output.specs.Writer.{Given, Outcome, fresh}
-use Rattle.text_output.specs.Write.{parts, placesForWrite, writeStrOf}
+use Rattle.text_output.specs.Write.{parts, writeStrOf}
 use Rattle.text_output.specs.Close.{closeOf}
 
 -- of the characters that go out, what the one write returned and left, and what the close returned
@@ -24,10 +24,11 @@ pub record Passes (out : List ℕ) (wrote : Outcome) (closed : Given) : Type 0 w
   pub write-stays : wrote .given .abandon ≡ false
   pub close-stays : closed .abandon ≡ false
 
--- a queue passes a fresh writer in a mode: "Enough room is at least what a write of that length needs."
+-- a queue passes a fresh writer in a mode: "Enough room is at least what a write of that length needs.", which is 3 × n places for n
+-- characters, where nothing is kept or held
 abbrev pub PassesIn : Mode → (page queue out : List ℕ) → Type 0
 PassesIn mode page queue out =
-    (places : List ℕ) → placesForWrite (fresh mode) (length queue) ≤ length places →
+    (places : List ℕ) → 3 * length queue ≤ length places →
     (wrote : Outcome) → wrote ≡ writeStrOf (fresh mode) page queue places →
     (closed : Given) → closed ≡ closeOf (wrote .given .next) → Passes out wrote closed
 
