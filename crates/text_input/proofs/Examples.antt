@@ -2,7 +2,7 @@
 -- the definitions give the same, character by character of what is written, by computing both. By the page 0 1 0 377; a scan of n
 -- characters is lent the 3 × n + 1 places that it needs, an empty one none, and a finish 2. Characters are hexadecimal.
 --     finishes    what is pending at a finish, 34F and 0A
---     chunks      the options, U+FEFF, and where escapes end
+--     chunks      the options, U+FEFF, line ends, page runs, and where escapes end
 use Prim.Native.Nat.{ℕ, _+_, _*_}
 use mathlib.Core.Bool.{Bool, true, false}
 use mathlib.Core.List.{List, [], _∷_, map}
@@ -171,6 +171,24 @@ chunkTable =
     ((0 ∷ []) ∷ (0 ∷ 0x2060 ∷ 0x61 ∷ []) ∷ (0 ∷ 0x0A ∷ []) ∷ [])
     ∷ row (finish false ∷ scan neither (0xFEFF ∷ 0x61 ∷ []) ∷ finish true ∷ [])
     ((0 ∷ []) ∷ (0 ∷ 0x61 ∷ []) ∷ (0 ∷ 0x0A ∷ []) ∷ [])
+    -- "Line end: 0D 0A, 0D, 0A", in one chunk and in two
+    ∷ row (scan neither (0x61 ∷ 0x0D ∷ 0x0A ∷ 0x62 ∷ []) ∷ finish true ∷ [])
+    ((0 ∷ 0x61 ∷ 0x0A ∷ 0x62 ∷ []) ∷ (0 ∷ 0x0A ∷ []) ∷ [])
+    ∷ row (scan neither (0x61 ∷ 0x0D ∷ []) ∷ scan neither (0x0A ∷ 0x62 ∷ []) ∷ finish true ∷ [])
+    ((0 ∷ 0x61 ∷ []) ∷ (0 ∷ 0x0A ∷ 0x62 ∷ []) ∷ (0 ∷ 0x0A ∷ []) ∷ [])
+    ∷ row (scan neither (0x0A ∷ 0x0D ∷ 0x0D ∷ 0x0A ∷ 0x0A ∷ []) ∷ finish true ∷ [])
+    ((0 ∷ 0x0A ∷ 0x0A ∷ 0x0A ∷ 0x0A ∷ []) ∷ (0 ∷ []) ∷ [])
+    ∷ row (scan neither (0x0D ∷ []) ∷ scan neither (0x61 ∷ 0x0D ∷ []) ∷ scan neither (0x0D ∷ 0x0A ∷ []) ∷ finish false ∷ [])
+    ((0 ∷ []) ∷ (0 ∷ 0x0A ∷ 0x61 ∷ []) ∷ (0 ∷ 0x0A ∷ 0x0A ∷ []) ∷ (0 ∷ []) ∷ [])
+    -- "Page run: one or more 0C. Image empty before 0D or 0A, else 20, also at the end."
+    ∷ row (scan neither (0x0C ∷ 0x0C ∷ 0x61 ∷ 0x0C ∷ []) ∷ finish true ∷ [])
+    ((0 ∷ 0x20 ∷ 0x61 ∷ []) ∷ (0 ∷ 0x20 ∷ 0x0A ∷ []) ∷ [])
+    ∷ row (scan neither (0x61 ∷ 0x0C ∷ 0x0D ∷ 0x0A ∷ 0x0C ∷ 0x0A ∷ []) ∷ finish true ∷ [])
+    ((0 ∷ 0x61 ∷ 0x0A ∷ 0x0A ∷ []) ∷ (0 ∷ []) ∷ [])
+    ∷ row (scan neither (0x0C ∷ []) ∷ scan neither (0x0C ∷ []) ∷ scan neither (0x0D ∷ []) ∷ finish true ∷ [])
+    ((0 ∷ []) ∷ (0 ∷ []) ∷ (0 ∷ []) ∷ (0 ∷ 0x0A ∷ []) ∷ [])
+    ∷ row (scan neither (0x0C ∷ 0x1B ∷ 0x63 ∷ 0x0D ∷ []) ∷ finish true ∷ [])
+    ((0 ∷ 0x20 ∷ []) ∷ (0 ∷ 0x0A ∷ []) ∷ [])
     -- the bounds of an escape
     ∷ row (scan neither (0x1B ∷ 0x5B ∷ 0x20 ∷ 0x31 ∷ 0x3F ∷ 0x40 ∷ 0x61 ∷ []) ∷ finish true ∷ [])
     ((0 ∷ 0x61 ∷ []) ∷ (0 ∷ 0x0A ∷ []) ∷ [])
