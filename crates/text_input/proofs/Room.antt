@@ -174,7 +174,7 @@ part-room p o r n cs =
 -- no fewer would do: "after 0D, the chunk FB03 gives 0A 66 66 69, four places: accepted with 4, refused with 3."
 pub exact : (p : List ℕ) (o : Options) (last count : ℕ) →
     length (outs p o (record { state = Cr; «expect_starter» = false; «at_start» = false; last = last; count = count }) (0xFB03 ∷ []))
-    ≡ placesForChunk 1
+    ≡ 4
 unfolding scanStepOf leaveOf meetOf optionalLine replaceOf
 exact p o last count = refl
 

@@ -21,7 +21,7 @@ use Rattle.text_input.specs.declared.State.the-variants.{Ground}
 use Rattle.text_input.specs.declared.Options.{Options}
 use Rattle.text_input.specs.declared.TextInput.{TextInput}
 use Rattle.text_input_parts.specs.declared.queue.Lead.the-variants.{Nothing, Char}
-use Rattle.text_input_parts.specs.Appended.{leadChars, lastOf, endMarkOf}
+use Rattle.text_input_parts.specs.Appended.{leadChars, lastOf}
 use Rattle.text_input.specs.Scan.{fresh, finishChars, finishNext}
 use Rattle.text_input.specs.Inner.{outs, ends}
 use Rattle.text_input.specs.Pieces.{Piece, Reading, isLine, image, endMark, lastNewline, cleaned}
@@ -40,12 +40,6 @@ pub nothing : finishChars fresh true ≡ []
 nothing = rw end-newline
 
 -- ---- a section by its pieces, where a start is expected
-section-is : (p : List ℕ) (n : ℕ) (owed : Bool) (xs : List Piece) (eof : Bool) →
-    sectionAfter p true n owed xs eof ≡ sectionOf p n owed xs eof
-unfolding sectionAfter sectionOf
-section-is p n owed xs eof = refl
-
--- a whole text's
 joiner-lead : (b : Bool) → leadChars (cond b Nothing (Char 0x34F)) ≡ cond b [] (0x34F ∷ [])
 joiner-lead true = refl
 joiner-lead false = refl
@@ -54,10 +48,16 @@ newline-lead : (b : Bool) → leadChars (cond b (Char 0x0A) Nothing) ≡ cond b 
 newline-lead true = refl
 newline-lead false = refl
 
-endMark-is : (w : List ℕ) → leadChars (endMarkOf (lastOf 0x0A w)) ≡ endMark w
+section-is : (p : List ℕ) (n : ℕ) (owed : Bool) (xs : List Piece) (eof : Bool) →
+    sectionAfter p true n owed xs eof ≡ sectionOf p n owed xs eof
+unfolding sectionAfter sectionOf
+section-is p n owed xs eof = rw (joiner-lead (basicTextEnd (lastOf n (image xs))), newline-lead (eof && owedAfter owed xs))
+
+-- a whole text's
+endMark-is : (w : List ℕ) → cond (basicTextEnd (lastOf 0x0A w)) [] (0x34F ∷ []) ≡ endMark w
 unfolding endMark
 endMark-is [] = rw end-newline
-endMark-is (x ∷ []) = joiner-lead (basicTextEnd x)
+endMark-is (x ∷ []) = refl
 endMark-is (x ∷ y ∷ w) = endMark-is (y ∷ w)
 
 cond-not : (b : Bool) (u v : List ℕ) → cond (not b) u v ≡ cond b v u
@@ -75,7 +75,7 @@ lastNewline-is (x ∷ xs) = newline-is false x xs
 
 whole-is : (p : List ℕ) (xs : List Piece) → sectionOf p 0x0A false xs true ≡ cleaned p xs
 unfolding sectionOf cleaned
-whole-is p xs = rw (endMark-is (image xs), newline-lead (owedAfter false xs), lastNewline-is xs)
+whole-is p xs = rw (endMark-is (image xs), lastNewline-is xs)
 
 module _ (p : List ℕ) (good : accepted p ≡ true) (o : Options) where
   -- ---- one section: the chunks cs come to a run over the text t

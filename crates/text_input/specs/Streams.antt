@@ -7,7 +7,8 @@ use mathlib.Core.List.{List, [], _∷_, _++_, flatten}
 use lib.Dec.{eqb}
 use Rattle.text_input.specs.declared.Options.{Options}
 use Rattle.text_input.specs.declared.TextInput.{TextInput}
-use Rattle.text_input_parts.specs.Appended.{leadChars, lastOf, endMarkOf, newlineOf}
+use Rattle.text_utils.specs.Classes.{basicTextEnd}
+use Rattle.text_input_parts.specs.Appended.{lastOf}
 use Rattle.text_input.specs.Scan.{scanChars, scanNext, finishChars, finishNext}
 use Rattle.text_input.specs.Pieces.{Piece, Reading, image, startMark, isLine}
 
@@ -80,12 +81,12 @@ unfoldable pub owedAfter : Bool → List Piece → Bool
 owedAfter owed [] = owed
 owedAfter owed (x ∷ xs) = owedAfter (not (isLine (x .kind))) xs
 
--- a section's part of the queue: its image with 34F before a first character that is no start; then what the finish adds, 34F after a
--- last character that is no end, and 0A where it is owed
+-- a section's part of the queue: its image with 34F before a first character that is no start; then what the finish adds: "If the
+-- last character ever appended is no end, 34F follows.", and 0A where it is owed, "As end of file": "A push adds no 0A."
 unfoldable pub sectionOf : List ℕ → ℕ → Bool → List Piece → Bool → List ℕ
 sectionOf p last owed xs eof =
     startMark p (image xs)
-    ++ (image xs ++ (leadChars (endMarkOf (lastOf last (image xs))) ++ leadChars (newlineOf (eof && owedAfter owed xs))))
+    ++ (image xs ++ (cond (basicTextEnd (lastOf last (image xs))) [] (0x34F ∷ []) ++ cond (eof && owedAfter owed xs) (0x0A ∷ []) []))
 
 -- the queue, section by section: the last character and an owed 0A go over a push, and an end of file leaves none owed
 unfoldable pub streamOf : List ℕ → ℕ → Bool → List Section → List (List Piece) → List ℕ

@@ -1,6 +1,7 @@
 -- The order of a scan's refusals, with document 01's numbers written out. Idea: by cases of the four conditions.
 --     places-are       what a chunk asks for, as a test of its places
 --     refusal-order    the number of a scan's refusal is the first of 2, 1, 10, 8 whose condition holds
+--     limits           the count's limit is reached by an accepted scan, and passed by none
 use Prim.Native.Nat.{ℕ, zero, suc, _+_, _*_}
 use mathlib.Core.Path.{_≡_, refl, ap, _∙_}
 use mathlib.Core.Bool.{Bool, true, false, cond, not, _&&_}
@@ -36,3 +37,9 @@ unfolding refusalOf chunkRefusal
 refusal-order count page chars n room =
     order-by page chars (ltb 4294967295 (count + n)) (ltb room (placesForChunk n))
     ∙ ap (λ e. cond (not page) 2 (cond (not chars) 1 (cond (ltb 4294967295 (count + n)) 10 (cond e 8 0)))) (places-are n room)
+
+-- the limit, with room and without a fault: one character more makes the count 4,294,967,295, then one more is refused and none more is
+-- not. The answers are those of the comparison's oracle.
+pub limits : (refusalOf 4294967294 true true 1 4 4 ≡ 0) × (refusalOf 4294967295 true true 1 4 4 ≡ 10) × (refusalOf 4294967295 true true 0 0 0 ≡ 0)
+unfolding refusalOf chunkRefusal
+limits = (refl, refl, refl)
