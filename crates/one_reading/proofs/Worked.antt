@@ -5,6 +5,7 @@ use Prim.Native.Nat.{ℕ}
 use mathlib.Core.Bool.{true}
 use mathlib.Core.List.{List, [], _∷_, flatten}
 use mathlib.Core.Path.{_≡_, refl}
+use native.Mathlib.Omega.{arith}
 use Rattle.unicode.specs.Chars.{isChar}
 use Rattle.ranges.specs.Ranges.{member, rises}
 use Rattle.page.specs.Page.{sized, rising, nonstarter, assigned, accepted}
@@ -24,6 +25,7 @@ use Rattle.text_input.proofs.Unique.{class, kindC, tailOf, longest-of}
 use Rattle.text_output.specs.Step.{groundOf, writeStepOf, stepsOf}
 use Rattle.text_output.specs.Write.{runOf, parts, moreParts, writtenBy, writeRefusal, writeStrOf}
 use Rattle.text_output.specs.Close.{closeOf}
+use Rattle.text_output.specs.Passing.{Passes}
 use Rattle.one_reading.specs.Calls.{Seen, queueOf, recordAfter, acceptedFrom, acceptedChunks, textOf, FinishedOnce}
 use Rattle.one_reading.specs.Demand.{NoneExcepted}
 use Rattle.one_reading.specs.Cases.{page, options, lent}
@@ -74,6 +76,12 @@ count-computed : recordAfter fresh seen .count ≡ 4
 unfolding seen recordAfter
 count-computed = refl
 
+-- what demand 3 says of the write with exactly 3 × 3 places and of the close
+passed : Passes queue wrote closed
+unfolding seen queueOf wrote closed toIsolate isolateStep isolateOf assigned member
+passed =
+    demand3 page good-page options calls once-finished seen seen-is .passes none-excepted (lent 9) (omega arith) wrote refl closed refl
+
 pub worked : Worked
 unfolding wrote closed writeStrOf writeRefusal writtenBy runOf parts moreParts stepsOf writeStepOf groundOf closeOf isChar
     replaceOf reasonOf checkNumbers basicTextStart basicTextEnd starter graphemeExtendNotCgj spacingMarkPlus isPrivateUse
@@ -90,6 +98,7 @@ worked =
       image = image-computed;
       queue-is = queue-computed;
       count = count-computed;
+      passes = passed;
       number = refl;
       places = refl;
       closes = refl;

@@ -2,11 +2,10 @@
 -- caller sees of each, the text and its reading, the queue, and the write and the close of it. It shows that the hypotheses of
 -- `Demand3` can be met. The answers are those of the comparison's oracle, which is the original Rust with what document 01 adds.
 -- Characters are hexadecimal.
-use Prim.Native.Nat.{ℕ, _*_}
+use Prim.Native.Nat.{ℕ}
 use mathlib.Core.Bool.{true, false}
 use mathlib.Core.List.{List, [], _∷_, _++_}
 use mathlib.Core.Path.{_≡_}
-use lib.ListN.{length}
 use Rattle.text_input.specs.declared.State.{State}
 use Rattle.text_input.specs.declared.State.the-variants.{Ground, Cr}
 use Rattle.text_input.specs.declared.TextInput.{TextInput}
@@ -17,6 +16,7 @@ use Rattle.text_output.specs.declared.Mode.the-variants.{Plain}
 use Rattle.text_output.specs.Writer.{Outcome as Wrote, Given, fresh as freshWriter}
 use Rattle.text_output.specs.Write.{writeStrOf}
 use Rattle.text_output.specs.Close.{closeOf}
+use Rattle.text_output.specs.Passing.{Passes}
 use Rattle.one_reading.specs.Calls.{Call, scan, finish, Seen, queueOf, recordAfter, acceptedFrom, textOf, FinishedOnce}
 use Rattle.one_reading.specs.Demand.{NoneExcepted, Promise}
 use Rattle.one_reading.specs.Cases.{page, options, lent}
@@ -92,6 +92,8 @@ pub record Worked : Type 0 where
   pub image : cleaned page pieces ≡ queue
   pub queue-is : queueOf seen ≡ queue
   pub count : recordAfter fresh seen .count ≡ 4
+  -- the writer hands the queue out as it is, since all of it is assigned, and closes
+  pub passes : Passes queue wrote closed
   pub number : wrote .given .numbers ≡ 0 ∷ 3 ∷ []
   pub places : wrote .places ≡ queue ++ lent 6
   pub closes : closed .numbers ≡ []
