@@ -6,7 +6,6 @@
 --     accepts-told    a call answers 0 exactly where it is accepted, on a record with this count
 use Prim.Native.Nat.{ℕ, zero, suc, _+_, _*_}
 use mathlib.Core.Bool.{Bool, true, false, cond, not, _&&_, _||_}
-use mathlib.Core.List.{List, [], _∷_}
 use mathlib.Core.Path.{_≡_, refl, ap, ap₂, sym, _∙_}
 use native.Mathlib.Omega.{arith}
 use lib.Dec.{eqb, ltb, leb}
@@ -17,7 +16,7 @@ use Rattle.common.proofs.Kit.{by-lt}
 use Rattle.unicode.specs.Chars.{areChars}
 use Rattle.page.specs.Page.{accepted}
 use Rattle.text_input.specs.declared.TextInput.{TextInput}
-use Rattle.text_input.specs.Scan.{scanRefusal, scanOf, finishOf}
+use Rattle.text_input.specs.Scan.{scanRefusal}
 use Rattle.text_input.proofs.Refusals.{scan-order, finish-order}
 use Rattle.text_input_parts.proofs.Order.{refusal-order}
 use Rattle.one_reading.specs.Calls.{Call, scan, finish, callOf, accepts}

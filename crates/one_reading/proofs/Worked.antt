@@ -1,9 +1,8 @@
 -- The example of specs/Worked.antt: each hypothesis of demand 3 is met, by computing; `demand3` is applied; and the definitions give the
 -- same values, by computing both. The reading's pieces are the longest by `longest-of` of text_input, at 0D and at 61.
 --     worked    the example
-use Prim.Native.Nat.{ℕ}
 use mathlib.Core.Bool.{true}
-use mathlib.Core.List.{List, [], _∷_, flatten}
+use mathlib.Core.List.{[], _∷_, flatten}
 use mathlib.Core.Path.{_≡_, refl}
 use native.Mathlib.Omega.{arith}
 use Rattle.unicode.specs.Chars.{isChar}
@@ -13,7 +12,6 @@ use Rattle.text_utils.specs.Classes.{starter, graphemeExtendNotCgj, spacingMark
 use Rattle.replace.specs.Replace.{replaceOf}
 use Rattle.check_char.specs.Check.{reasonOf, checkNumbers}
 use Rattle.isolate_unassigned.specs.Isolate.{toIsolate, isolateStepOf as isolateStep, isolateOf}
-use Rattle.text_input_parts.specs.Sets.{final, stringEnd, upTo7F, newlineChar}
 use Rattle.text_input_parts.specs.PieceSets.{crOrLf}
 use Rattle.text_input_parts.specs.Refusals.{chunkRefusal, refusalOf}
 use Rattle.text_input.specs.Sets.{optionalLine}

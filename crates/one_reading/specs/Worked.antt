@@ -22,12 +22,13 @@ use Rattle.one_reading.specs.Demand.{NoneExcepted, Promise}
 use Rattle.one_reading.specs.Cases.{page, options, lent}
 
 -- ---- the calls
+-- "A refused call may bring any page, options, chunk and room"
 unfoldable pub calls : List Call
 calls =
     -- two characters need seven places: refused by 8
     scan page options (0xFEFF ∷ 0x0D ∷ []) (lent 1)
-    -- a page that is a number short: refused by 2
-    ∷ scan (0 ∷ 1 ∷ 0 ∷ []) options (0xFEFF ∷ 0x0D ∷ []) (lent 7)
+    -- a page that is a number short, and other options: refused by 2
+    ∷ scan (0 ∷ 1 ∷ 0 ∷ []) (record { «nel_compatibility» = true; «lsps_compatibility» = true }) (0xFEFF ∷ 0x0D ∷ []) (lent 7)
     -- the first accepted call: FEFF is dropped, and 0D waits
     ∷ scan page options (0xFEFF ∷ 0x0D ∷ []) (lent 7)
     -- D800 is no character: refused by 1
@@ -40,7 +41,7 @@ calls =
     ∷ []
 
 -- ---- what a caller sees
--- the record after a call
+-- a record that has had a scan, and expects a start
 abbrev pub after : State → ℕ → ℕ → TextInput
 after state last count =
     record { state = state; «expect_starter» = true; «at_start» = false; last = last; count = count }

@@ -9,7 +9,6 @@ use mathlib.Core.List.{[], _∷_}
 use native.Mathlib.Omega.{arith}
 use borrow.Author.Tests.{lt-ltb, le-ltb}
 use lib.Dec.{eqb, ltb}
-use Rattle.common.specs.Answers.{thenRoom}
 use Rattle.common.specs.Order.{_when_, firstOf}
 use Rattle.text_input_parts.specs.Refusals.{placesForChunk, chunkRefusal, refusalOf}
 
