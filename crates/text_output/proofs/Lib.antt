@@ -7,4 +7,7 @@ pub mod Steps
 pub mod Kept
 pub mod Refusals
 pub mod Sound
+pub mod Rows
 pub mod Examples
+pub mod OrderExamples
+pub mod KeptExamples
