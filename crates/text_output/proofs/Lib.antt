@@ -7,6 +7,7 @@ pub mod Steps
 pub mod Kept
 pub mod Refusals
 pub mod Sound
+pub mod Orders
 pub mod Rows
 pub mod Examples
 pub mod OrderExamples

@@ -1,7 +1,7 @@
 -- What stays kept, and goes out first. Document 01, "Characters go out": characters "stay kept and go out with the next success".
 use Prim.Native.Nat.{ℕ, _≤_, _<_}
 use mathlib.Core.Bool.{Bool, cond}
-use mathlib.Core.List.{List, [], _∷_}
+use mathlib.Core.List.{List, [], _∷_, _++_}
 use mathlib.Core.Path.{_≡_}
 use lib.ListN.{take}
 use Rattle.text_output.specs.declared.TextOutput.{TextOutput}
@@ -12,6 +12,10 @@ use Rattle.text_output.specs.Writer.{Outcome}
 -- out with the next success."
 abbrev pub keptAfter : Bool → ℕ → ℕ
 keptAfter handed k = cond handed 0 k
+
+-- the characters that are to be handed out: the kept ones, which stand in the first places, and behind them those that a write adds
+abbrev pub toHandOut : TextOutput → List ℕ → List ℕ → List ℕ
+toHandOut w places xs = take (w .kept) places ++ xs
 
 -- of the writer and the places at entry, and what a call returned and left: "the kept characters stay."
 abbrev pub KeptStay : TextOutput → List ℕ → Outcome → Type 0
