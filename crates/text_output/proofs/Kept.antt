@@ -2,6 +2,7 @@
 -- alone.
 --     kept-first          in a write of characters
 --     kept-first-bytes    .. in a write of bytes
+--     flush-keeps, close-keeps, abandon-keeps    these leave how many are kept, refused or not
 use Prim.Native.Nat.{ℕ, _+_, _≤_, _<_}
 use mathlib.Core.Bool.{false, not, _&&_}
 use mathlib.Core.List.{List, [], _∷_}
@@ -15,10 +16,14 @@ use Rattle.unicode.specs.Utf8.{charsOf}
 use Rattle.common.proofs.Kit.{split}
 use Rattle.common.proofs.Lists.{take-sets}
 use Rattle.text_utils.specs.Classes.{basicTextStart}
+use Rattle.text_output.specs.declared.Ground.the-variants.{Newline, ZwjOrPrepend, Other}
+use Rattle.text_output.specs.declared.State.{State}
+use Rattle.text_output.specs.declared.State.the-variants.{Ground, Esc, Csi}
 use Rattle.text_output.specs.declared.TextOutput.{TextOutput}
-use Rattle.text_output.specs.Writer.{Given, Machine, machineOf}
+use Rattle.text_output.specs.Writer.{Given, Machine, machineOf, sound}
 use Rattle.text_output.specs.Step.{Stepped, goes, stops}
 use Rattle.text_output.specs.Write.{runIn, endedBy, writtenBy, unlessRefused, writeStrRefusal, writeStrOf, writeBytesRefusal, writeOf}
+use Rattle.text_output.specs.Close.{flushIn, flushOf, closeIn, closeOf, abandonOf}
 use Rattle.text_output.specs.Kept.{KeptFirst}
 use Rattle.text_output.proofs.Steps.{StepRefusal, four, six, Holds, mode-refuses}
 
@@ -81,3 +86,33 @@ module _ (w : TextOutput) (places : List ℕ) where
   pub kept-first-bytes : (p bytes : List ℕ) → KeptFirst w places (writeOf w p bytes places .outcome)
   unfolding writeOf
   kept-first-bytes p bytes = unless-keeps (writeBytesRefusal w p bytes (length places)) p (charsOf bytes)
+
+-- ---- a flush, a close, abandon
+module _ (w : TextOutput) where
+  -- "Refused by 3, 11, 12 or 13, the kept characters stay.", and by 9; success leaves them too
+  flush-in : (s : State) → flushIn s w .next .kept ≡ w .kept
+  flush-in (Ground Newline) = refl
+  flush-in (Ground ZwjOrPrepend) = refl
+  flush-in (Ground Other) = refl
+  flush-in Esc = refl
+  flush-in Csi = refl
+
+  pub flush-keeps : flushOf w .next .kept ≡ w .kept
+  unfolding flushOf
+  flush-keeps = split (λ (g : Given). g .next .kept ≡ w .kept) (sound (machineOf w)) (λ e. flush-in (w .state)) (λ e. refl)
+
+  close-in : (s : State) → closeIn s w .next .kept ≡ w .kept
+  close-in (Ground Newline) = refl
+  close-in (Ground ZwjOrPrepend) = refl
+  close-in (Ground Other) = refl
+  close-in Esc = refl
+  close-in Csi = refl
+
+  pub close-keeps : closeOf w .next .kept ≡ w .kept
+  unfolding closeOf
+  close-keeps = split (λ (g : Given). g .next .kept ≡ w .kept) (sound (machineOf w)) (λ e. close-in (w .state)) (λ e. refl)
+
+  -- "abandon refuses nothing, leaves kept and expectation"
+  pub abandon-keeps : abandonOf w .kept ≡ w .kept
+  unfolding abandonOf
+  abandon-keeps = refl

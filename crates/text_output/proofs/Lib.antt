@@ -8,6 +8,8 @@ pub mod Kept
 pub mod Refusals
 pub mod Sound
 pub mod Orders
+pub mod Escapes
+pub mod Corners
 pub mod Rows
 pub mod Examples
 pub mod OrderExamples

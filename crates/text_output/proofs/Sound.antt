@@ -34,8 +34,9 @@ IsSound w = sound (machineOf w) ≡ true
 
 -- ---- the steps
 -- one character more is held
-hold-sound : (m : Machine) (s t : State) (c : ℕ) → heldIn s (m .held) ≡ true → Grows s (m .held) t → sound (holding m t c) ≡ true
-hold-sound m (Ground g) Esc c h opened = rw (eqb-true (m .held) 0 h)
+hold-sound : {mode : Mode} (m : Machine) (s t : State) (c : ℕ) → heldIn s (m .held) ≡ true → Grows mode s (m .held) t →
+    sound (holding m t c) ≡ true
+hold-sound m (Ground g) Esc c h (opened k) = rw (eqb-true (m .held) 0 h)
 hold-sound m Esc Csi c h begun = rw (eqb-true (m .held) 1 h)
 hold-sound m Csi Csi c h (longer low) =
     both (le-leb (m .held + 1) escapeLimit (omega (arith, low))) (le-leb 2 (m .held + 1) (omega (arith, leb-true 2 (m .held) h)))
@@ -45,8 +46,8 @@ held-by m s e h = rw e at (both-true (leb (m .held) escapeLimit) (heldIn (m .sta
 
 pub step-sound : (mode : Mode) (m : Machine) (error : List ℕ) (c : ℕ) → sound m ≡ true →
     Holds (λ (n : Machine). sound n ≡ true) (writeStepOf mode m error c)
-step-sound =
-    step-holds (λ (m : Machine). sound m ≡ true) (λ m g s. refl) (λ m s t c e g i. hold-sound m s t c (held-by m s e i) g)
+step-sound mode =
+    step-holds (λ (m : Machine). sound m ≡ true) mode (λ m g s. refl) (λ m s t c e g i. hold-sound m s t c (held-by m s e i) g)
 
 -- ---- a write
 module _ (w : TextOutput) (h : IsSound w) where
@@ -62,7 +63,8 @@ module _ (w : TextOutput) (h : IsSound w) where
   unfolding writtenBy
   written-sound p chars places =
       ended-sound p (runIn (w .mode) p (machineOf w) chars) places
-      (mode-holds (λ (m : Machine). sound m ≡ true) (λ m g s. refl) (λ m s t c e g i. hold-sound m s t c (held-by m s e i) g) p (w .mode) (machineOf w) chars h)
+      (mode-holds (λ (m : Machine). sound m ≡ true) (w .mode) (λ m g s. refl) (λ m s t c e g i. hold-sound m s t c (held-by m s e i) g) p
+      (machineOf w) chars h)
 
   -- refused before its steps, or not
   unless-sound : (n : ℕ) (places : List ℕ) (o : Outcome) → IsSound (o .given .next) → IsSound (unlessRefused n w places o .given .next)

@@ -7,6 +7,7 @@
 --     mode-holds     .. the steps of a write, in any mode
 --     mode-refuses   a refused one of them is refused by 4 or 6
 use Prim.Native.Nat.{ℕ, _<_}
+use mathlib.Core.Bool.{true}
 use mathlib.Core.List.{List, [], _∷_}
 use mathlib.Core.Path.{_≡_, refl}
 use lib.Dec.{eqb, ltb}
@@ -27,25 +28,25 @@ pub data StepRefusal : List ℕ → Type 0 where
   four : {reason : List ℕ} → StepRefusal (4 ∷ reason)
   six : StepRefusal (6 ∷ [])
 
--- from a state and a held count, the state in which one character more is held
-pub data Grows : State → ℕ → State → Type 0 where
-  opened : {g : Ground} {held : ℕ} → Grows (Grounded g) held Esc
-  begun : {held : ℕ} → Grows Esc held Csi
-  longer : {held : ℕ} → held < escapeLimit → Grows Csi held Csi
+-- in a mode, from a state and a held count, the state in which one character more is held
+pub data Grows (mode : Mode) : State → ℕ → State → Type 0 where
+  opened : {g : Ground} {held : ℕ} → isColor mode ≡ true → Grows mode (Grounded g) held Esc
+  begun : {held : ℕ} → Grows mode Esc held Csi
+  longer : {held : ℕ} → held < escapeLimit → Grows mode Csi held Csi
 
 -- a fact of what some steps leave, and where one is refused, its numbers
 abbrev pub Holds : (Machine → Type 0) → Stepped → Type 0
 Holds I (goes xs m) = I m
 Holds I (stops xs m n) = I m × StepRefusal n
 
-module _ (I : Machine → Type 0) (ground : (m : Machine) (g : Ground) → I m → I (onGround m g))
-    (hold : (m : Machine) (s t : State) (c : ℕ) → m .state ≡ s → Grows s (m .held) t → I m → I (holding m t c)) (mode : Mode) where
+module _ (I : Machine → Type 0) (mode : Mode) (ground : (m : Machine) (g : Ground) → I m → I (onGround m g))
+    (hold : (m : Machine) (s t : State) (c : ℕ) → m .state ≡ s → Grows mode s (m .held) t → I m → I (holding m t c)) where
   -- ---- one step
   -- what is asked for, done
   asked-holds : (m : Machine) (s : State) (c : ℕ) → m .state ≡ s → I m → Holds I (doneBy (askedIn s mode (m .held) c) m c)
   asked-holds m (Grounded g) c e h =
       split (λ (a : Step). Holds I (doneBy a m c)) (eqb c 0x1B)
-      (λ q. split (λ (a : Step). Holds I (doneBy a m c)) (isColor mode) (λ k. hold m (Grounded g) Esc c e opened h) (λ k. (h, four)))
+      (λ q. split (λ (a : Step). Holds I (doneBy a m c)) (isColor mode) (λ k. hold m (Grounded g) Esc c e (opened k) h) (λ k. (h, four)))
       (λ q. ground m _ h)
   asked-holds m Esc c e h =
       split (λ (a : Step). Holds I (doneBy a m c)) (eqb c 0x5B) (λ q. hold m Esc Csi c e begun h) (λ q. (h, four))
@@ -104,14 +105,14 @@ module _ (I : Machine → Type 0) (ground : (m : Machine) (g : Ground) → I m �
     parts-hold (part ∷ rest) m h =
         then-holds (runOf mode p m part) (λ after. moreParts mode p after rest) (run-holds m part h) (λ after e. more-hold rest after e)
 
-module _ (I : Machine → Type 0) (ground : (m : Machine) (g : Ground) → I m → I (onGround m g))
-    (hold : (m : Machine) (s t : State) (c : ℕ) → m .state ≡ s → Grows s (m .held) t → I m → I (holding m t c)) (p : List ℕ) where
-  -- .. in any mode
-  pub mode-holds : (mode : Mode) (m : Machine) (chars : List ℕ) → I m → Holds I (runIn mode p m chars)
-  mode-holds Plain m chars h = run-holds I ground hold Plain p m chars h
-  mode-holds Crlf m chars h = parts-hold I ground hold Crlf p (parts chars) m h
-  mode-holds Color m chars h = run-holds I ground hold Color p m chars h
+-- .. in any mode
+pub mode-holds : (I : Machine → Type 0) (mode : Mode) (ground : (m : Machine) (g : Ground) → I m → I (onGround m g))
+    (hold : (m : Machine) (s t : State) (c : ℕ) → m .state ≡ s → Grows mode s (m .held) t → I m → I (holding m t c)) (p : List ℕ)
+    (m : Machine) (chars : List ℕ) → I m → Holds I (runIn mode p m chars)
+mode-holds I Plain ground hold p m chars h = run-holds I Plain ground hold p m chars h
+mode-holds I Crlf ground hold p m chars h = parts-hold I Crlf ground hold p (parts chars) m h
+mode-holds I Color ground hold p m chars h = run-holds I Color ground hold p m chars h
 
 -- a refused step is refused by 4 or 6
 pub mode-refuses : (p : List ℕ) (mode : Mode) (m : Machine) (chars : List ℕ) → Holds (λ (n : Machine). Unit {0}) (runIn mode p m chars)
-mode-refuses p mode m chars = mode-holds (λ (n : Machine). Unit {0}) (λ n g h. tt) (λ n s t c e g h. tt) p mode m chars tt
+mode-refuses p mode m chars = mode-holds (λ (n : Machine). Unit {0}) mode (λ n g h. tt) (λ n s t c e g h. tt) p m chars tt

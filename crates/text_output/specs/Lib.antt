@@ -9,3 +9,4 @@ pub mod Close
 pub mod Passing
 pub mod Refusals
 pub mod Orders
+pub mod Corners
