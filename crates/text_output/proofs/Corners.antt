@@ -2,10 +2,12 @@
 -- enter one; the calls go by their cases.
 --     write-corners, write-bytes-corners    what a write of characters, of bytes leaves
 --     write-takes                           how many bytes a write takes
+--     write-prefix                          .. and of which characters it is a write
 --     flush-corners, close-corners          what a flush, a close leaves
 --     abandon-corners                       what abandon leaves
+--     opens, opens-with                     a record as first made, and the character that BOM mode hands out
 use Prim.Native.Nat.{ℕ, _+_, _<_}
-use mathlib.Core.Bool.{false, not, _&&_}
+use mathlib.Core.Bool.{true, false, not, _&&_}
 use mathlib.Core.List.{List, [], _∷_, _++_, append-nil}
 use mathlib.Core.Path.{_≡_, refl, sym, _∙_}
 use native.Mathlib.Omega.{arith}
@@ -25,13 +27,13 @@ use Rattle.text_output.specs.declared.Mode.{Mode}
 use Rattle.text_output.specs.declared.Mode.the-variants.{Plain, Crlf, Color}
 use Rattle.text_output.specs.declared.Step.{Step}
 use Rattle.text_output.specs.declared.TextOutput.{TextOutput}
-use Rattle.text_output.specs.Writer.{Given, Outcome, Machine, machineOf, sound, escapeLimit}
+use Rattle.text_output.specs.Writer.{Given, Outcome, Machine, machineOf, fresh, byteOrderMark, sound, escapeLimit}
 use Rattle.text_output.specs.Step.{Stepped, goes, stops, behind, andThen, groundOf, holding, isColor, inSequence, askedIn, doneBy, writeStepOf, stepsOf}
 use Rattle.text_output.specs.Write.{runOf, parts, putCrlf, moreParts, partsOf, runIn, endedBy, writtenBy, unlessRefused, writeStrRefusal, writeStrOf, writeBytesRefusal, succeeds, writeOf}
-use Rattle.text_output.specs.Close.{expecting, done, flushIn, flushOf, closeIn, closeOf, abandonOf}
+use Rattle.text_output.specs.Close.{flushIn, flushOf, closeIn, closeOf, abandonOf}
 use Rattle.text_output.specs.Refusals.{refusalIn}
 use Rattle.text_output.specs.Orders.{inEscape, letsColor}
-use Rattle.text_output.specs.Corners.{saidBy, saidLast, WriteLeaves, Takes, EndLeaves, Abandons}
+use Rattle.text_output.specs.Corners.{Opens, saidBy, saidLast, WriteLeaves, Takes, WritesPrefix, EndLeaves, Abandons}
 use Rattle.text_output.proofs.Answers.{four-fails}
 use Rattle.text_output.proofs.Steps.{Grows, opened, begun, longer, StepRefusal, four, six, Holds, mode-holds, mode-refuses}
 use Rattle.text_output.proofs.Escapes.{color-is}
@@ -237,11 +239,17 @@ module _ (w : TextOutput) where
         none = λ h. rw (lists, not-zero _ h);
       }
 
+  -- no prefix holds a value that is no character
+  pub write-prefix : (p bytes places : List ℕ) → WritesPrefix w p bytes places
+  unfolding writeOf writeStrOf
+  write-prefix p bytes places cs l h = rw (← (longest-only bytes cs l), h, l .chars)
+
 -- ---- a flush and a close
 module _ (w : TextOutput) where
   -- a success
-  done-corners : EndLeaves w (done (expecting w))
-  done-corners = record { expects = λ z. refl; stays = λ z. refl; same-state = λ z. (refl, refl); same-mode = refl }
+  done-corners : (g : Given) → g .next .«expect_starter» ≡ true → g .abandon ≡ false → g .next .state ≡ w .state →
+      g .next .held ≡ w .held → g .next .mode ≡ w .mode → EndLeaves w g
+  done-corners g e a s h m = record { expects = λ z. e; stays = λ z. a; same-state = λ z. (s, h); same-mode = m }
 
   -- a refusal
   refused-corners : (g : Given) → 0 < refusalIn g → g .next .mode ≡ w .mode → EndLeaves w g
@@ -249,9 +257,9 @@ module _ (w : TextOutput) where
       record { expects = λ z. absurd (omega arith); stays = λ z. absurd (omega arith); same-state = λ z. absurd (omega arith); same-mode = m }
 
   flush-in : (s : State) → EndLeaves w (flushIn s w)
-  flush-in (Grounded Newline) = done-corners
+  flush-in (Grounded Newline) = done-corners _ refl refl refl refl refl
   flush-in (Grounded ZwjOrPrepend) = refused-corners _ (omega arith) refl
-  flush-in (Grounded Other) = done-corners
+  flush-in (Grounded Other) = done-corners _ refl refl refl refl refl
   flush-in Esc = refused-corners _ (omega arith) refl
   flush-in Csi = refused-corners _ (omega arith) refl
 
@@ -260,7 +268,7 @@ module _ (w : TextOutput) where
   flush-corners = split (EndLeaves w) (sound (machineOf w)) (λ e. flush-in (w .state)) (λ e. refused-corners _ (omega arith) refl)
 
   close-in : (s : State) → EndLeaves w (closeIn s w)
-  close-in (Grounded Newline) = done-corners
+  close-in (Grounded Newline) = done-corners _ refl refl refl refl refl
   close-in (Grounded ZwjOrPrepend) = refused-corners _ (omega arith) refl
   close-in (Grounded Other) = refused-corners _ (omega arith) refl
   close-in Esc = refused-corners _ (omega arith) refl
@@ -274,3 +282,11 @@ module _ (w : TextOutput) where
   pub abandon-corners : Abandons w (abandonOf w)
   unfolding abandonOf
   abandon-corners = record { expectation-stays = refl; after-newline = (refl, refl); same-mode = refl }
+
+-- ---- opening
+pub opens : (mode : Mode) → Opens mode (fresh mode)
+opens mode = record { in-mode = refl; expects = refl; after-newline = (refl, refl) }
+
+-- "FEFF is handed out on opening"
+pub opens-with : byteOrderMark ≡ 0xFEFF
+opens-with = refl

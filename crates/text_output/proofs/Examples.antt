@@ -55,6 +55,15 @@ table =
           write 200 (0x2126 ∷ []) gives told (4 ∷ 16 ∷ 0x2126 ∷ 1 ∷ 0x2126 ∷ 0 ∷ 0 ∷ []) (1 ∷ 0 ∷ 1 ∷ 0 ∷ []) [] ∷
           [];
     }
+    -- of two refused characters the first gives the reason
+    ∷ record {
+      mode = Plain;
+      page = 0 ∷ 1 ∷ 0 ∷ 0x377 ∷ [];
+      calls =
+          write 200 (0x7F ∷ 0x2126 ∷ []) gives told (4 ∷ 2 ∷ 0x7F ∷ []) (1 ∷ 0 ∷ 1 ∷ 0 ∷ []) [] ∷
+          write 200 (0x2126 ∷ 0x7F ∷ []) gives told (4 ∷ 16 ∷ 0x2126 ∷ 1 ∷ 0x2126 ∷ 0 ∷ 0 ∷ []) (1 ∷ 0 ∷ 1 ∷ 0 ∷ []) [] ∷
+          [];
+    }
     -- an empty write spends the expectation of a start, in no place
     ∷ record {
       mode = Plain;
@@ -265,6 +274,15 @@ table =
           write 200 (0x40 ∷ []) gives told (4 ∷ 15 ∷ []) (1 ∷ 0 ∷ 0 ∷ 0 ∷ []) [] ∷
           write 200 (0x1B ∷ 0x5B ∷ replicate 62 0x31) gives told (0 ∷ 0 ∷ []) (0 ∷ 4 ∷ 0 ∷ 64 ∷ []) [] ∷
           write 200 (0x7F ∷ []) gives told (4 ∷ 15 ∷ []) (1 ∷ 0 ∷ 0 ∷ 0 ∷ []) [] ∷
+          [];
+    }
+    -- CRLF: 0A gives 0D 0A, also behind another
+    ∷ record {
+      mode = Crlf;
+      page = 0 ∷ 1 ∷ 0 ∷ 0x377 ∷ [];
+      calls =
+          write 200 (0x0A ∷ 0x0A ∷ 0x61 ∷ []) gives told (0 ∷ 5 ∷ []) (0 ∷ 2 ∷ 0 ∷ 0 ∷ []) (0x0D ∷ 0x0A ∷ 0x0D ∷ 0x0A ∷ 0x61 ∷ []) ∷
+          write 200 (0x0D ∷ []) gives told (4 ∷ 2 ∷ 0x0D ∷ []) (1 ∷ 0 ∷ 0 ∷ 0 ∷ []) [] ∷
           [];
     }
     -- CRLF: each part is isolated alone

@@ -1,7 +1,7 @@
 -- What a writer keeps goes out first with the next success, and stays kept under a refusal. Idea: a write stores behind the kept places
 -- alone.
---     kept-first          in a write of characters
---     kept-first-bytes    .. in a write of bytes
+--     kept-first, kept-first-bytes               in a write of characters, of bytes
+--     kept-behind, kept-behind-bytes             what its steps add is stored behind the kept characters, and handed out or kept with them
 --     flush-keeps, close-keeps, abandon-keeps    these leave how many are kept, refused or not
 use Prim.Native.Nat.{ℕ, _+_, _≤_, _<_}
 use mathlib.Core.Bool.{false, not, _&&_}
@@ -12,8 +12,10 @@ use lib.Dec.{eqb, ltb}
 use lib.ListN.{length, take, getD}
 use lib.Seq.{sets}
 use borrow.Author.Tests.{eqb-false}
+use Rattle.unicode.specs.Chars.{areChars}
 use Rattle.unicode.specs.Utf8.{charsOf}
-use Rattle.common.proofs.Kit.{split}
+use Rattle.page.specs.Page.{accepted}
+use Rattle.common.proofs.Kit.{never, split}
 use Rattle.common.proofs.Lists.{take-sets}
 use Rattle.text_utils.specs.Classes.{basicTextStart}
 use Rattle.text_output.specs.declared.Ground.the-variants.{Newline, ZwjOrPrepend, Other}
@@ -22,9 +24,10 @@ use Rattle.text_output.specs.declared.State.the-variants.{Ground, Esc, C
 use Rattle.text_output.specs.declared.TextOutput.{TextOutput}
 use Rattle.text_output.specs.Writer.{Given, Machine, machineOf, sound}
 use Rattle.text_output.specs.Step.{Stepped, goes, stops}
-use Rattle.text_output.specs.Write.{runIn, endedBy, writtenBy, unlessRefused, writeStrRefusal, writeStrOf, writeBytesRefusal, writeOf}
+use Rattle.text_output.specs.Write.{runIn, endedBy, writtenBy, inputRefusal, placesForWrite, writeRefusal, unlessRefused, charsRefusal, writeStrRefusal, writeStrOf, bytesRefusal, writeBytesRefusal, writeOf}
 use Rattle.text_output.specs.Close.{flushIn, flushOf, closeIn, closeOf, abandonOf}
-use Rattle.text_output.specs.Kept.{KeptFirst}
+use Rattle.text_output.specs.Kept.{byItsSteps, KeptFirst, KeptBehind}
+use Rattle.text_output.specs.Orders.{added}
 use Rattle.text_output.proofs.Steps.{StepRefusal, four, six, Holds, mode-refuses}
 
 refusal-first : {n : List ℕ} → StepRefusal n → 0 < getD n 0 0
@@ -54,6 +57,18 @@ module _ (w : TextOutput) (places : List ℕ) where
         none-left = λ n e. none;
         stay-kept = λ n values h e. let z : n ≡ 0 = cc in omega (arith, z);
       }
+
+  -- 5, or a success
+  ended-behind : (p : List ℕ) (s : Stepped) → Holds (λ (m : Machine). Unit {0}) s → KeptBehind w places (added s) (endedBy p w s places)
+  ended-behind p (goes xs m) h =
+      let k = w .kept + length xs in
+      let after = sets places (w .kept) xs in
+      split (λ (g : Given). KeptBehind w places xs (record { given = g; places = after }))
+      (w .«expect_starter» && (ltb 0 k && not (basicTextStart p (getD after 0 0))))
+      (λ e. record { handed = λ z. absurd (omega arith); kept-behind = λ z. refl; stored = λ z. refl })
+      (λ e. record { handed = λ z. refl; kept-behind = λ z. never z; stored = λ z. refl })
+  ended-behind p (stops xs m n) (h, r) =
+      record { handed = λ z. absurd (omega (arith, refusal-first r, z)); kept-behind = λ z. refl; stored = λ z. refl }
 
   -- how a write ends, by its steps
   ended-keeps : (p : List ℕ) (s : Stepped) → Holds (λ (m : Machine). Unit {0}) s → KeptFirst w places (endedBy p w s places)
@@ -86,6 +101,53 @@ module _ (w : TextOutput) (places : List ℕ) where
   pub kept-first-bytes : (p bytes : List ℕ) → KeptFirst w places (writeOf w p bytes places .outcome)
   unfolding writeOf
   kept-first-bytes p bytes = unless-keeps (writeBytesRefusal w p bytes (length places)) p (charsOf bytes)
+
+-- ---- how many a write hands out, or keeps
+-- a number by which a write is refused before its steps is none of theirs
+abbrev IsEarly : ℕ → Type 0
+IsEarly n = (eqb n 0 ≡ false) → byItsSteps (n ∷ []) ≡ false
+
+early : (w : TextOutput) (p : List ℕ) (values n room : ℕ) → IsEarly values → IsEarly (writeRefusal w p values n room)
+unfolding writeRefusal
+early w p values n room h =
+    let i =
+    split IsEarly (not (sound (machineOf w))) (λ e z. refl) (λ e. split IsEarly (not (accepted p)) (λ a z. refl) (λ a. h)) in
+    split IsEarly (eqb (inputRefusal w p values) 0)
+    (λ z. split IsEarly (ltb room (placesForWrite w n)) (λ r e. refl) (λ r e. refl)) (λ z. i)
+
+module _ (w : TextOutput) (places : List ℕ) where
+  -- refused before its steps, or not
+  unless-behind : (n : ℕ) (p chars : List ℕ) → IsEarly n →
+      KeptBehind w places (added (runIn (w .mode) p (machineOf w) chars)) (unlessRefused n w places (writtenBy w p chars places))
+  unfolding writtenBy
+  unless-behind n p chars h =
+      let xs = added (runIn (w .mode) p (machineOf w) chars) in
+      split (KeptBehind w places xs) (eqb n 0)
+      (λ e. ended-behind w places p (runIn (w .mode) p (machineOf w) chars) (mode-refuses p (w .mode) (machineOf w) chars))
+      (λ e.
+      split (λ (g : Given). KeptBehind w places xs (record { given = g; places = places })) (eqb n 3)
+      (λ t. record { handed = λ z. absurd (omega arith); kept-behind = λ z. never z; stored = λ z. never z })
+      (λ t.
+      record {
+        handed = λ z. absurd (eqb-false n 0 e z);
+        kept-behind = λ z. never (rw (h e) at z);
+        stored = λ z. never (rw (e, h e) at z);
+      }))
+
+  pub kept-behind : (p chars : List ℕ) → KeptBehind w places (added (runIn (w .mode) p (machineOf w) chars)) (writeStrOf w p chars places)
+  unfolding writeStrOf
+  kept-behind p chars =
+      unless-behind (writeStrRefusal w p chars (length places)) p chars
+      (early w p (charsRefusal chars) (length chars) (length places) (split IsEarly (areChars chars) (λ e z. refl) (λ e z. refl)))
+
+  pub kept-behind-bytes : (p bytes : List ℕ) →
+      KeptBehind w places (added (runIn (w .mode) p (machineOf w) (charsOf bytes))) (writeOf w p bytes places .outcome)
+  unfolding writeOf
+  kept-behind-bytes p bytes =
+      let cs = charsOf bytes in
+      unless-behind (writeBytesRefusal w p bytes (length places)) p cs
+      (early w p (bytesRefusal (length bytes) (length cs)) (length cs) (length places)
+      (split IsEarly (ltb 0 (length bytes) && eqb (length cs) 0) (λ e z. refl) (λ e z. refl)))
 
 -- ---- a flush, a close, abandon
 module _ (w : TextOutput) where

@@ -1,10 +1,10 @@
 -- What else each call leaves, refused or not: the corners of document 01, "Characters go out". What it leaves of kept characters stands in
 -- Kept, what its refusals leave in Refusals.
 use Prim.Native.Nat.{ℕ, _<_}
-use mathlib.Core.Bool.{true, false, cond}
+use mathlib.Core.Bool.{true, false, cond, _&&_}
 use mathlib.Core.List.{List, [], _∷_}
 use mathlib.Core.Path.{_≡_}
-use lib.Dec.{eqb}
+use lib.Dec.{eqb, ltb}
 use lib.ListN.{length}
 use Rattle.unicode.specs.Utf8.{encodeAll, LongestPrefix}
 use Rattle.text_utils.specs.Classes.{basicTextEnd}
@@ -12,11 +12,20 @@ use Rattle.text_output.specs.declared.Ground.{Ground as Last}
 use Rattle.text_output.specs.declared.Ground.the-variants.{Newline, ZwjOrPrepend, Other}
 use Rattle.text_output.specs.declared.State.{State}
 use Rattle.text_output.specs.declared.State.the-variants.{Ground}
+use Rattle.text_output.specs.declared.Mode.{Mode}
 use Rattle.text_output.specs.declared.TextOutput.{TextOutput}
 use Rattle.text_output.specs.Writer.{Given, BytesOutcome}
 use Rattle.text_output.specs.Step.{Stepped}
+use Rattle.text_output.specs.Write.{writeStrOf, writeOf}
 use Rattle.text_output.specs.Refusals.{refusalIn}
 use Rattle.text_output.specs.Orders.{inEscape, letsColor, added}
+
+-- ---- opening
+-- "Each writer mode is opened by a constructor of its own": a record in that mode, after a newline, that expects a start and holds nothing
+pub record Opens (mode : Mode) (w : TextOutput) : Type 0 where
+  pub in-mode : w .mode ≡ mode
+  pub expects : w .«expect_starter» ≡ true
+  pub after-newline : (w .state ≡ Ground Newline) × (w .held ≡ 0)
 
 -- ---- a write, of characters or of bytes
 -- what a character says, where it stands last: "a newline", "a non-end", "another character"
@@ -44,6 +53,13 @@ pub record WriteLeaves (w : TextOutput) (steps : Stepped) (wrote : Given) : Type
 pub record Takes (bytes : List ℕ) (wrote : BytesOutcome) : Type 0 where
   pub all : refusalIn (wrote .outcome .given) ≡ 0 → (cs : List ℕ) → LongestPrefix bytes cs → wrote .used ≡ length (encodeAll cs)
   pub none : 0 < refusalIn (wrote .outcome .given) → wrote .used ≡ 0
+
+-- a write of bytes that 3 does not refuse, "a byte write, not empty, whose first byte begins no valid character", does what the write
+-- of its longest valid prefix's characters does
+abbrev pub WritesPrefix : TextOutput → List ℕ → List ℕ → List ℕ → Type 0
+WritesPrefix w p bytes places =
+    (cs : List ℕ) → LongestPrefix bytes cs → ltb 0 (length bytes) && eqb (length cs) 0 ≡ false →
+    writeOf w p bytes places .outcome ≡ writeStrOf w p cs places
 
 -- ---- a flush and a close
 pub record EndLeaves (w : TextOutput) (g : Given) : Type 0 where
