@@ -4,30 +4,29 @@
 --     kept-behind, kept-behind-bytes             what its steps add is stored behind the kept characters, and handed out or kept with them
 --     flush-keeps, close-keeps, abandon-keeps    these leave how many are kept, refused or not
 use Prim.Native.Nat.{ℕ, _+_, _≤_, _<_}
-use mathlib.Core.Bool.{false, not, _&&_}
+use mathlib.Core.Bool.{false}
 use mathlib.Core.List.{List, [], _∷_}
 use mathlib.Core.Path.{_≡_, refl}
 use native.Mathlib.Omega.{arith}
-use lib.Dec.{eqb, ltb}
+use lib.Dec.{eqb}
 use lib.ListN.{length, take, getD}
 use lib.Seq.{sets}
 use borrow.Author.Tests.{eqb-false}
 use Rattle.unicode.specs.Chars.{areChars}
 use Rattle.unicode.specs.Utf8.{charsOf}
-use Rattle.page.specs.Page.{accepted}
 use Rattle.common.proofs.Kit.{never, split}
 use Rattle.common.proofs.Lists.{take-sets}
-use Rattle.text_utils.specs.Classes.{basicTextStart}
 use Rattle.text_output.specs.declared.Ground.the-variants.{Newline, ZwjOrPrepend, Other}
 use Rattle.text_output.specs.declared.State.{State}
 use Rattle.text_output.specs.declared.State.the-variants.{Ground, Esc, Csi}
 use Rattle.text_output.specs.declared.TextOutput.{TextOutput}
 use Rattle.text_output.specs.Writer.{Given, Machine, machineOf, sound}
 use Rattle.text_output.specs.Step.{Stepped, goes, stops}
-use Rattle.text_output.specs.Write.{runIn, endedBy, writtenBy, inputRefusal, placesForWrite, writeRefusal, unlessRefused, charsRefusal, writeStrRefusal, writeStrOf, bytesRefusal, writeBytesRefusal, writeOf}
+use Rattle.text_output.specs.Write.{runIn, endedBy, writtenBy, unlessRefused, charsRefusal, writeStrRefusal, writeStrOf, bytesRefusal, writeBytesRefusal, writeOf}
 use Rattle.text_output.specs.Close.{flushIn, flushOf, closeIn, closeOf, abandonOf}
 use Rattle.text_output.specs.Kept.{byItsSteps, KeptFirst, KeptBehind}
 use Rattle.text_output.specs.Orders.{added}
+use Rattle.text_output.proofs.Early.{refusal-by, bytes-by, handed-by}
 use Rattle.text_output.proofs.Steps.{StepRefusal, four, six, Holds, mode-refuses}
 
 refusal-first : {n : List ℕ} → StepRefusal n → 0 < getD n 0 0
@@ -63,10 +62,9 @@ module _ (w : TextOutput) (places : List ℕ) where
   ended-behind p (goes xs m) h =
       let k = w .kept + length xs in
       let after = sets places (w .kept) xs in
-      split (λ (g : Given). KeptBehind w places xs (record { given = g; places = after }))
-      (w .«expect_starter» && (ltb 0 k && not (basicTextStart p (getD after 0 0))))
-      (λ e. record { handed = λ z. absurd (omega arith); kept-behind = λ z. refl; stored = λ z. refl })
-      (λ e. record { handed = λ z. refl; kept-behind = λ z. never z; stored = λ z. refl })
+      handed-by (λ (g : Given). KeptBehind w places xs (record { given = g; places = after })) p (w .mode) (w .«expect_starter») m k after
+      (record { handed = λ z. absurd (omega arith); kept-behind = λ z. refl; stored = λ z. refl })
+      (record { handed = λ z. refl; kept-behind = λ z. never z; stored = λ z. refl })
   ended-behind p (stops xs m n) (h, r) =
       record { handed = λ z. absurd (omega (arith, refusal-first r, z)); kept-behind = λ z. refl; stored = λ z. refl }
 
@@ -76,10 +74,8 @@ module _ (w : TextOutput) (places : List ℕ) where
       let k = w .kept + length xs in
       let after = sets places (w .kept) xs in
       let same = take-sets (w .kept) xs places (w .kept) (omega arith) in
-      split (λ (g : Given). KeptFirst w places (record { given = g; places = after }))
-      (w .«expect_starter» && (ltb 0 k && not (basicTextStart p (getD after 0 0))))
-      (λ e. refused-keeps after _ same (omega arith) (omega arith))
-      (λ e. handed-keeps after k _ same (omega arith) refl)
+      handed-by (λ (g : Given). KeptFirst w places (record { given = g; places = after })) p (w .mode) (w .«expect_starter») m k after
+      (refused-keeps after _ same (omega arith) (omega arith)) (handed-keeps after k _ same (omega arith) refl)
   ended-keeps p (stops xs m n) h =
       refused-keeps (sets places (w .kept) xs) _ (take-sets (w .kept) xs places (w .kept) (omega arith)) (refusal-first (h .1)) (omega arith)
 
@@ -107,14 +103,6 @@ module _ (w : TextOutput) (places : List ℕ) where
 abbrev IsEarly : ℕ → Type 0
 IsEarly n = (eqb n 0 ≡ false) → byItsSteps (n ∷ []) ≡ false
 
-early : (w : TextOutput) (p : List ℕ) (values n room : ℕ) → IsEarly values → IsEarly (writeRefusal w p values n room)
-unfolding writeRefusal
-early w p values n room h =
-    let i =
-    split IsEarly (not (sound (machineOf w))) (λ e z. refl) (λ e. split IsEarly (not (accepted p)) (λ a z. refl) (λ a. h)) in
-    split IsEarly (eqb (inputRefusal w p values) 0)
-    (λ z. split IsEarly (ltb room (placesForWrite w n)) (λ r e. refl) (λ r e. refl)) (λ z. i)
-
 module _ (w : TextOutput) (places : List ℕ) where
   -- refused before its steps, or not
   unless-behind : (n : ℕ) (p chars : List ℕ) → IsEarly n →
@@ -138,7 +126,8 @@ module _ (w : TextOutput) (places : List ℕ) where
   unfolding writeStrOf
   kept-behind p chars =
       unless-behind (writeStrRefusal w p chars (length places)) p chars
-      (early w p (charsRefusal chars) (length chars) (length places) (split IsEarly (areChars chars) (λ e z. refl) (λ e z. refl)))
+      (refusal-by IsEarly (λ z. refl) (λ z. refl) (λ z. refl) (λ z. refl) w p (charsRefusal chars) (length chars) (length places)
+      (split IsEarly (areChars chars) (λ e z. refl) (λ e z. refl)))
 
   pub kept-behind-bytes : (p bytes : List ℕ) →
       KeptBehind w places (added (runIn (w .mode) p (machineOf w) (charsOf bytes))) (writeOf w p bytes places .outcome)
@@ -146,8 +135,8 @@ module _ (w : TextOutput) (places : List ℕ) where
   kept-behind-bytes p bytes =
       let cs = charsOf bytes in
       unless-behind (writeBytesRefusal w p bytes (length places)) p cs
-      (early w p (bytesRefusal (length bytes) (length cs)) (length cs) (length places)
-      (split IsEarly (ltb 0 (length bytes) && eqb (length cs) 0) (λ e z. refl) (λ e z. refl)))
+      (refusal-by IsEarly (λ z. refl) (λ z. refl) (λ z. refl) (λ z. refl) w p (bytesRefusal (length bytes) (length cs)) (length cs) (length places)
+      (bytes-by IsEarly (λ z. refl) (λ z. refl) (length bytes) (length cs)))
 
 -- ---- a flush, a close, abandon
 module _ (w : TextOutput) where

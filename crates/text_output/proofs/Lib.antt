@@ -4,6 +4,7 @@ pub mod Writable
 pub mod Passing
 pub mod Modes
 pub mod Steps
+pub mod Early
 pub mod Kept
 pub mod Refusals
 pub mod Sound

@@ -8,25 +8,23 @@ use mathlib.Core.Bool.{true, false, not, _&&_}
 use mathlib.Core.List.{List, [], _∷_}
 use mathlib.Core.Path.{_≡_, refl, sym}
 use native.Mathlib.Omega.{arith}
-use lib.Dec.{eqb, ltb}
+use lib.Dec.{eqb}
 use lib.ListN.{length, drop, getD}
 use lib.Seq.{sets}
 use Rattle.unicode.specs.Chars.{areChars}
 use Rattle.unicode.specs.Utf8.{charsOf}
 use Rattle.common.proofs.Kit.{never, split, both-true}
 use Rattle.common.proofs.Lists.{drop-sets}
-use Rattle.page.specs.Page.{accepted}
-use Rattle.text_utils.specs.Classes.{basicTextStart}
 use Rattle.text_output.specs.declared.Ground.the-variants.{Newline, ZwjOrPrepend, Other}
 use Rattle.text_output.specs.declared.State.{State}
 use Rattle.text_output.specs.declared.State.the-variants.{Ground, Esc, Csi}
 use Rattle.text_output.specs.declared.TextOutput.{TextOutput}
 use Rattle.text_output.specs.Writer.{Given, Machine, machineOf, writerWith, sound, refusedBy, abandonedBy}
 use Rattle.text_output.specs.Step.{Stepped, goes, stops}
-use Rattle.common.specs.Answers.{thenRoom}
-use Rattle.text_output.specs.Write.{runIn, endedBy, writtenBy, inputRefusal, writeRefusal, refusedWrite, unlessRefused, charsRefusal, writeStrRefusal, writeStrOf, bytesRefusal, writeBytesRefusal, writeOf}
+use Rattle.text_output.specs.Write.{runIn, endedBy, writtenBy, writeRefusal, refusedWrite, unlessRefused, charsRefusal, writeStrRefusal, writeStrOf, bytesRefusal, writeBytesRefusal, writeOf}
 use Rattle.text_output.specs.Close.{expecting, flushIn, flushOf, closeIn, closeOf}
 use Rattle.text_output.specs.Refusals.{Call, write, flush, close, refusalIn, filledIn, oneOf, isClose, isQuiet, isOther, isSparing, Leaves, SecondCloses}
+use Rattle.text_output.proofs.Early.{refusal-by, bytes-by, handed-by}
 use Rattle.text_output.proofs.Steps.{StepRefusal, four, six, Holds, mode-refuses}
 use Rattle.text_output.proofs.Answers.{four-fails}
 
@@ -140,16 +138,9 @@ second-closes w =
 abbrev IsInput : ℕ → Type 0
 IsInput n = (eqb n 0 ≡ false) → (eqb n 3 ≡ false) → (isOther write n ≡ false) × (eqb n 5 ≡ false)
 
-room-input : (n need room : ℕ) → IsInput n → IsInput (thenRoom n need room)
-room-input n need room h =
-    split IsInput (eqb n 0) (λ z. split IsInput (ltb room need) (λ r a b. (refl, refl)) (λ r a b. never (sym a))) (λ z. h)
-
--- 9, 2 and 8 are such, and 1 is
+-- 9, 2 and 8 are such
 refusal-quiet : (w : TextOutput) (p : List ℕ) (values n room : ℕ) → IsInput values → IsInput (writeRefusal w p values n room)
-unfolding writeRefusal
-refusal-quiet w p values n room h =
-    room-input (inputRefusal w p values) _ room
-    (split IsInput (not (sound (machineOf w))) (λ e a b. (refl, refl)) (λ e. split IsInput (not (accepted p)) (λ a c d. (refl, refl)) (λ a. h)))
+refusal-quiet = refusal-by IsInput (λ a b. never (sym a)) (λ a b. (refl, refl)) (λ a b. (refl, refl)) (λ a b. (refl, refl))
 
 module _ (w : TextOutput) (places : List ℕ) where
   -- a refused step
@@ -166,10 +157,9 @@ module _ (w : TextOutput) (places : List ℕ) where
       let k = w .kept + length xs in
       let after = sets places (w .kept) xs in
       let past = drop-sets k places (w .kept) xs (omega arith) in
-      split (λ (g : Given). Leaves write w places (record { given = g; places = after }))
-      (w .«expect_starter» && (ltb 0 k && not (basicTextStart p (getD after 0 0))))
-      (λ e. loud write w places 5 [] (writerWith (w .mode) false k m) after refl (λ q. never q) (λ q. refl) (λ q. never q) (λ q. never q) past)
-      (λ e. handed write w places (0 ∷ k ∷ []) _ after refl (λ q. never q) past)
+      handed-by (λ (g : Given). Leaves write w places (record { given = g; places = after })) p (w .mode) (w .«expect_starter») m k after
+      (loud write w places 5 [] (writerWith (w .mode) false k m) after refl (λ q. never q) (λ q. refl) (λ q. never q) (λ q. never q) past)
+      (handed write w places (0 ∷ k ∷ []) _ after refl (λ q. never q) past)
   ended-leaves p (stops xs m n) h =
       let k = w .kept + length xs in
       stopped-leaves (h .1) (writerWith (w .mode) (w .«expect_starter») k m) _ refl (drop-sets k places (w .kept) xs (omega arith))
@@ -211,4 +201,4 @@ module _ (w : TextOutput) (places : List ℕ) where
       let cs = charsOf bytes in
       unless-leaves (writeBytesRefusal w p bytes (length places)) p cs
       (refusal-quiet w p (bytesRefusal (length bytes) (length cs)) (length cs) (length places)
-      (split IsInput (ltb 0 (length bytes) && eqb (length cs) 0) (λ e a b. never (sym b)) (λ e a b. never (sym a))))
+      (bytes-by IsInput (λ a b. never (sym a)) (λ a b. never (sym b)) (length bytes) (length cs)))
