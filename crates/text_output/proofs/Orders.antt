@@ -18,7 +18,7 @@ use Rattle.unicode.specs.Chars.{areChars}
 use Rattle.unicode.specs.Utf8.{charsOf}
 use Rattle.page.specs.Page.{accepted}
 use Rattle.text_utils.specs.Classes.{basicTextStart}
-use Rattle.isolate_unassigned.specs.Isolate.{isolateOf}
+use Rattle.isolate_unassigned.specs.Meaning.{isolated}
 use Rattle.text_output.specs.declared.Ground.the-variants.{Newline, ZwjOrPrepend, Other}
 use Rattle.text_output.specs.declared.State.{State}
 use Rattle.text_output.specs.declared.State.the-variants.{Ground, Esc, Csi}
@@ -125,7 +125,7 @@ begins-is p (suc k) (c ∷ places) xs h g =
 -- ---- a write, by its steps
 -- an empty write has none
 empty-steps : (p : List ℕ) (mode : Mode) (m : Machine) → runIn mode p m [] ≡ goes [] m
-unfolding runOf parts moreParts stepsOf isolateOf
+unfolding runOf parts moreParts stepsOf isolated
 empty-steps p Plain m = refl
 empty-steps p Crlf m = refl
 empty-steps p Color m = refl
