@@ -1,4 +1,9 @@
 -- The proofs of this crate: from the check's answer to those of the entries (`Answers`), and what replacement and check do to every
--- character (`Clean`).
+-- character (`Clean`); the check's lists held to Unicode's (`Sources`), the Rust's answers at the ends of every range (`Examples`), the
+-- order of refusals (`Order`), and that no two answers list alike (`Back`).
 pub mod Answers
 pub mod Clean
+pub mod Sources
+pub mod Examples
+pub mod Order
+pub mod Back

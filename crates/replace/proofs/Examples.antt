@@ -24,7 +24,7 @@ removed =
     0x9ffff ∷ 0xafffe ∷ 0xaffff ∷ 0xbfffe ∷ 0xbffff ∷ 0xcfffe ∷ 0xcffff ∷ 0xdfffe ∷ 0xdffff ∷ 0xe0001 ∷ 0xefffe ∷ 0xeffff ∷
     0xffffe ∷ 0xfffff ∷ 0x10fffe ∷ 0x10ffff ∷ []
 
--- "anything else is itself"
+-- themselves: the neighbours
 abbrev themselves : List ℕ
 themselves =
     0x9 ∷ 0xa ∷ 0x1b ∷ 0x20 ∷ 0x7e ∷ 0xa0 ∷ 0x148 ∷ 0x14a ∷ 0x672 ∷ 0x674 ∷ 0x9e3 ∷ 0x9e6 ∷
@@ -39,7 +39,7 @@ themselves =
     0xa0000 ∷ 0xafffd ∷ 0xb0000 ∷ 0xbfffd ∷ 0xc0000 ∷ 0xcfffd ∷ 0xd0000 ∷ 0xdfffd ∷ 0xe0000 ∷ 0xe0002 ∷ 0xefffd ∷ 0xf0000 ∷
     0xffffd ∷ 0x100000 ∷ 0x10fffd ∷ []
 
--- "Entries on one character give 1"
+-- refused by 1
 abbrev no-chars : List ℕ
 no-chars = 0xd800 ∷ 0xdfff ∷ 0x110000 ∷ 0xffffffff ∷ []
 
@@ -67,7 +67,7 @@ rows =
     (0x111c4, 0 ∷ 0x1118f ∷ 0x11180 ∷ []) ∷
     (map (λ c. (c, 0 ∷ 0xfffd ∷ [])) removed ++ map (λ c. (c, 0 ∷ c ∷ [])) themselves ++ map (λ c. (c, 1 ∷ [])) no-chars)
 
--- "Replacement is one decision over all characters, as `replace` has it; anything else is itself."
+-- "Replacement is one decision over all characters, as `replace` has it; anything else is itself."; "Entries on one character give 1"
 pub examples : map (λ (r : Row). replacementOf (r .0)) rows ≡ map (λ (r : Row). r .1) rows
 unfolding isChar replaceOf
 examples = refl

@@ -3,9 +3,10 @@
 //!
 //!     tables src SOURCES DATA CRATE      writes src/tables.rt
 //!     tables specs SOURCES DATA CRATE    writes specs/Tables.antt
-//!     tables check SOURCES DATA CRATE    compares both with the crate's files, and the sources with each other
+//!     tables refused SOURCES DATA CRATE  writes specs/Unicode.antt of the crate `check_char`, which stands beside it
+//!     tables check SOURCES DATA CRATE    compares all with the crates' files, and the sources with each other
 
-use harness::tables::{check, files, ORIGINAL};
+use harness::tables::{check, files, refused, ORIGINAL};
 use std::path::Path;
 use std::process::ExitCode;
 use std::{env, fs};
@@ -18,7 +19,8 @@ fn main() -> ExitCode {
     let made = match what.as_str() {
         "src" => original(sources).and_then(|text| files::src(&text)),
         "specs" => files::specs(Path::new(data)),
-        "check" => original(sources).and_then(|text| check::check(&text, Path::new(data), Path::new(package))),
+        "refused" => refused::specs(Path::new(data)),
+        "check" => check_all(sources, Path::new(data), Path::new(package)),
         _ => return usage(),
     };
     match made {
@@ -34,8 +36,14 @@ fn main() -> ExitCode {
 }
 
 fn usage() -> ExitCode {
-    eprintln!("usage: tables src|specs|check SOURCES DATA CRATE");
+    eprintln!("usage: tables src|specs|refused|check SOURCES DATA CRATE");
     ExitCode::from(2)
+}
+
+/// Both crates' files.
+fn check_all(sources: &str, data: &Path, package: &Path) -> Result<String, String> {
+    let found = check::check(&original(sources)?, data, package)?;
+    Ok(found + &refused::check(data, &package.with_file_name("check_char"))?)
 }
 
 /// The text of the original's file.

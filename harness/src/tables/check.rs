@@ -32,7 +32,7 @@ pub fn check(text: &str, folder: &Path, package: &Path) -> Result<String, String
 }
 
 /// Whether a file of the crate is the text that is made.
-fn same(package: &Path, file: &str, made: &str) -> Result<String, String> {
+pub fn same(package: &Path, file: &str, made: &str) -> Result<String, String> {
     let path = package.join(file);
     let there = fs::read_to_string(&path).map_err(|error| format!("{}: {error}", path.display()))?;
     if there == made {

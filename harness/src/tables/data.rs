@@ -24,7 +24,7 @@ pub fn of_break(folder: &Path, values: &[&str]) -> Result<Set, String> {
 }
 
 /// The ranges of a file with a value, in the file's order, which rises.
-fn of_file(folder: &Path, file: &str, value: &str) -> Result<Vec<Range>, String> {
+pub fn of_file(folder: &Path, file: &str, value: &str) -> Result<Vec<Range>, String> {
     let path = folder.join(file);
     let text = fs::read_to_string(&path).map_err(|error| format!("{}: {error}", path.display()))?;
     if !is_of_version(&text) {

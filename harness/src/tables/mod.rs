@@ -5,6 +5,7 @@ pub mod check;
 pub mod data;
 pub mod files;
 pub mod original;
+pub mod refused;
 
 use crate::page::Range;
 use std::collections::BTreeSet;

@@ -1,0 +1,81 @@
+-- An answer of the check, and a reason, can be read back from its numbers, so that no two list alike and a contract on these is one on
+-- the answer itself. Each variant by itself, by computing.
+--     errorOf, error-back       a reason, by its place in the Rust's `BasicTextError`
+--     checkedOf, checked-back   what the check says
+--     answerOf, check-back      the entry's answer
+use Prim.Native.Nat.{ℕ}
+use mathlib.Core.Bool.{false, cond}
+use mathlib.Core.List.{List, [], _∷_}
+use mathlib.Core.Path.{_≡_, refl, ap}
+use lib.Dec.{eqb}
+use lib.ListN.{getD}
+use Rattle.check_char.specs.declared.BasicTextError.{BasicTextError}
+use Rattle.check_char.specs.declared.BasicTextError.the-variants.{ColorEscapeSequence, ControlCode, DeprecatedFormatChar, Escape, BidiFormatChar, Interlinear, LanguageTag, LineSeparation, NonChar, ParaSeparation, UnneededBOM, OutOfBand, Omit, Beyyal, UnrecognizedEscape, Replacement}
+use Rattle.check_char.specs.declared.Checked.{Checked}
+use Rattle.check_char.specs.declared.Checked.the-variants.{Ok, Err}
+use Rattle.check_char.specs.declared.Answer.{Answer}
+use Rattle.check_char.specs.declared.Answer.the-variants.{Accepted, NotAChar, Refused}
+use Rattle.check_char.specs.Check.{errorNumbers, reasonNumbers, checkAnswerNumbers}
+
+-- the reason of these numbers
+-- "the reason as the place in `BasicTextError` counted from 1 (2 to 16; 1 is unused)"
+abbrev pub errorOf : List ℕ → BasicTextError
+errorOf ns =
+    let r = getD ns 0 0 in
+    let c = getD ns 1 0 in
+    cond (eqb r 1) ColorEscapeSequence
+    (cond (eqb r 2) (ControlCode c)
+    (cond (eqb r 3) (DeprecatedFormatChar c)
+    (cond (eqb r 4) Escape
+    (cond (eqb r 5) BidiFormatChar
+    (cond (eqb r 6) Interlinear
+    (cond (eqb r 7) LanguageTag
+    (cond (eqb r 8) LineSeparation
+    (cond (eqb r 9) NonChar
+    (cond (eqb r 10) ParaSeparation
+    (cond (eqb r 11) UnneededBOM
+    (cond (eqb r 12) OutOfBand
+    (cond (eqb r 13) (Omit c)
+    (cond (eqb r 14) Beyyal
+    (cond (eqb r 15) UnrecognizedEscape
+    (Replacement (record { count = getD ns 2 0; first = getD ns 3 0; second = getD ns 4 0; third = getD ns 5 0 }) c)))))))))))))))
+
+-- each is read back, and none has the number 0
+told : (e : BasicTextError) → (errorOf (errorNumbers e) ≡ e) × (eqb (getD (errorNumbers e) 0 0) 0 ≡ false)
+told ColorEscapeSequence = (refl, refl)
+told (ControlCode c) = (refl, refl)
+told (DeprecatedFormatChar c) = (refl, refl)
+told Escape = (refl, refl)
+told BidiFormatChar = (refl, refl)
+told Interlinear = (refl, refl)
+told LanguageTag = (refl, refl)
+told LineSeparation = (refl, refl)
+told NonChar = (refl, refl)
+told ParaSeparation = (refl, refl)
+told UnneededBOM = (refl, refl)
+told OutOfBand = (refl, refl)
+told (Omit c) = (refl, refl)
+told Beyyal = (refl, refl)
+told UnrecognizedEscape = (refl, refl)
+told (Replacement y n) = (refl, refl)
+
+pub error-back : (e : BasicTextError) → errorOf (errorNumbers e) ≡ e
+error-back e = told e .0
+
+-- what the check says, by these numbers
+abbrev pub checkedOf : List ℕ → Checked
+checkedOf ns = cond (eqb (getD ns 0 0) 0) Ok (Err (errorOf ns))
+
+pub checked-back : (r : Checked) → checkedOf (reasonNumbers r) ≡ r
+checked-back Ok = refl
+checked-back (Err e) = rw (told e .1) (ap Err (error-back e))
+
+-- the entry's answer of these numbers
+abbrev pub answerOf : List ℕ → Answer
+answerOf [] = Accepted
+answerOf (n ∷ ns) = cond (eqb n 0) Accepted (cond (eqb n 1) NotAChar (Refused (errorOf ns)))
+
+pub check-back : (a : Answer) → answerOf (checkAnswerNumbers a) ≡ a
+check-back Accepted = refl
+check-back NotAChar = refl
+check-back (Refused e) = ap Refused (error-back e)

@@ -1,0 +1,70 @@
+-- The check's lists held to Unicode's: each law by one test that antt computes over the rows and the spans of a property
+-- (`agrees` of replace, Spans), at every number up to 10FFFF.
+--     excepted-are      the excepted are characters with a singleton decomposition: three signs, and all such ideographs of two blocks
+--     control-codes     reason 2: the controls but for tab, newline and ESC
+--     deprecated-ones   reason 3: the deprecated ones of 2060..206F
+--     bidi-formats      reason 5: the bidi controls but for three marks
+--     separators        reasons 8 and 10: the line separator and the paragraph separator
+--     noncharacters     reason 9: the noncharacters, by Unicode's list and by its rule
+use Prim.Native.Nat.{ℕ, _<_}
+use mathlib.Core.Path.{_≡_, refl, _∙_}
+use mathlib.Core.Bool.{Bool, true, false, not, _&&_}
+use mathlib.Core.List.{List, [], _∷_}
+use native.Mathlib.Omega.{arith}
+use lib.Dec.{T, eqb}
+use Rattle.replace.specs.Table.{Span, _to_, one, inSpans}
+use Rattle.replace.specs.Replace.{nonchars}
+use Rattle.replace.specs.Nonchars.{nonCharacter}
+use Rattle.replace.proofs.Rows.{Piece, _until_, At, here}
+use Rattle.replace.proofs.Spans.{agree, agrees, spans-agree}
+use Rattle.replace.proofs.Nonchars.{nonchars-are}
+use Rattle.check_char.specs.Check.{excepted, refusals, reasonOf}
+use Rattle.check_char.specs.Unicode.{control, lineSeparator, paragraphSeparator, deprecated, bidiControl, noncharacterCodePoint, compatibilityIdeographs, singletonDecomposition}
+
+abbrev line : List Piece
+line = 0 until 0x110000 ∷ []
+
+-- the first list's characters but for the second's
+abbrev but : Bool → Bool → Bool
+but y z = y && not z
+
+-- reason r is given exactly at the characters of ys but for those of zs
+abbrev given-at : ℕ → List Span → List Span → Bool
+given-at r ys zs = agree but ys zs (λ n. eqb n r) refusals 0 line
+
+given : (r : ℕ) (ys zs : List Span) → T (given-at r ys zs) → (c : ℕ) → c < 0x110000 → eqb (reasonOf c) r ≡ inSpans ys c && not (inSpans zs c)
+unfolding reasonOf
+given r ys zs t c h = agrees but ys zs (λ n. eqb n r) refusals 0 line t (here {x = 0} (omega arith) h)
+
+and-true : (b : Bool) → b && true ≡ b
+and-true true = refl
+and-true false = refl
+
+all-given : (r : ℕ) (ys : List Span) → T (given-at r ys []) → (c : ℕ) → c < 0x110000 → eqb (reasonOf c) r ≡ inSpans ys c
+all-given r ys t c h = given r ys [] t c h ∙ and-true (inSpans ys c)
+
+-- "The ideographs excepted are those that `check_basic_text_char` lists."
+pub excepted-are : (c : ℕ) → c < 0x110000 →
+    inSpans excepted c ≡ inSpans singletonDecomposition c && inSpans (one 0x2126 ∷ one 0x212a ∷ one 0x212b ∷ compatibilityIdeographs) c
+excepted-are c h =
+    spans-agree _&&_ singletonDecomposition (one 0x2126 ∷ one 0x212a ∷ one 0x212b ∷ compatibilityIdeographs) excepted line tt
+    (here {x = 0} (omega arith) h)
+
+-- "`check_basic_text_char` accepts 1B."
+pub control-codes : (c : ℕ) → c < 0x110000 → eqb (reasonOf c) 2 ≡ inSpans control c && not (inSpans (0x9 to 0xa ∷ one 0x1b ∷ []) c)
+control-codes = given 2 control (0x9 to 0xa ∷ one 0x1b ∷ []) tt
+
+-- the others have a replacement (16), or are the language tag (7)
+pub deprecated-ones : (c : ℕ) → c < 0x110000 →
+    eqb (reasonOf c) 3 ≡ inSpans deprecated c && not (inSpans (0x0 to 0x205f ∷ 0x2070 to 0x10ffff ∷ []) c)
+deprecated-ones = given 3 deprecated (0x0 to 0x205f ∷ 0x2070 to 0x10ffff ∷ []) tt
+
+-- the Arabic letter mark, and the marks for left to right and right to left, are accepted
+pub bidi-formats : (c : ℕ) → c < 0x110000 → eqb (reasonOf c) 5 ≡ inSpans bidiControl c && not (inSpans (one 0x61c ∷ 0x200e to 0x200f ∷ []) c)
+bidi-formats = given 5 bidiControl (one 0x61c ∷ 0x200e to 0x200f ∷ []) tt
+
+pub separators : (c : ℕ) → c < 0x110000 → (eqb (reasonOf c) 8 ≡ inSpans lineSeparator c) × (eqb (reasonOf c) 10 ≡ inSpans paragraphSeparator c)
+separators c h = (all-given 8 lineSeparator tt c h, all-given 10 paragraphSeparator tt c h)
+
+pub noncharacters : (c : ℕ) → c < 0x110000 → (eqb (reasonOf c) 9 ≡ inSpans noncharacterCodePoint c) × (eqb (reasonOf c) 9 ≡ nonCharacter c)
+noncharacters c h = (all-given 9 noncharacterCodePoint tt c h, all-given 9 nonchars tt c h ∙ nonchars-are c h)
