@@ -7,39 +7,16 @@ use Prim.Native.Nat.{ℕ}
 use mathlib.Core.Bool.{Bool, true, false, cond}
 use mathlib.Core.List.{List, [], _∷_}
 use mathlib.Core.Path.{_≡_, refl}
-use lib.Dec.{eqb}
-use lib.ListN.{getD}
 use Rattle.check_char.specs.declared.BasicTextError.{BasicTextError}
 use Rattle.check_char.specs.declared.BasicTextError.the-variants.{ColorEscapeSequence, ControlCode, DeprecatedFormatChar, Escape, BidiFormatChar, Interlinear, LanguageTag, LineSeparation, NonChar, ParaSeparation, UnneededBOM, OutOfBand, Omit, Beyyal, UnrecognizedEscape, Replacement}
 use Rattle.check_char.specs.Check.{errorNumbers}
+use Rattle.check_char.proofs.Back.{errorOf}
 use Rattle.text_output.specs.declared.Wrote.{Wrote}
 use Rattle.text_output.specs.declared.Wrote.the-variants.{HandedOut, Refused, Abandon, Unwritable}
 use Rattle.text_output.specs.declared.Answer.{Answer}
 use Rattle.text_output.specs.declared.Answer.the-variants.{Done, Refused as Denied, Abandon as Abandoned}
 use Rattle.text_output.specs.Writer.{wroteNumbers, wroteTells, answerNumbers, answerTells}
 use Rattle.text_output.specs.Write.{succeeds}
-
--- the reason of these numbers
-abbrev pub errorOf : List ℕ → BasicTextError
-errorOf ns =
-    let r = getD ns 0 0 in
-    let c = getD ns 1 0 in
-    cond (eqb r 1) ColorEscapeSequence
-    (cond (eqb r 2) (ControlCode c)
-    (cond (eqb r 3) (DeprecatedFormatChar c)
-    (cond (eqb r 4) Escape
-    (cond (eqb r 5) BidiFormatChar
-    (cond (eqb r 6) Interlinear
-    (cond (eqb r 7) LanguageTag
-    (cond (eqb r 8) LineSeparation
-    (cond (eqb r 9) NonChar
-    (cond (eqb r 10) ParaSeparation
-    (cond (eqb r 11) UnneededBOM
-    (cond (eqb r 12) OutOfBand
-    (cond (eqb r 13) (Omit c)
-    (cond (eqb r 14) Beyyal
-    (cond (eqb r 15) UnrecognizedEscape
-    (Replacement (record { count = getD ns 2 0; first = getD ns 3 0; second = getD ns 4 0; third = getD ns 5 0 }) c)))))))))))))))
 
 -- the answer of these numbers, by whether it tells the caller to abandon
 abbrev pub answerOf : List ℕ → Bool → Answer
