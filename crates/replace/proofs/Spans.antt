@@ -1,6 +1,7 @@
 -- Two tables that say the same of every number, by one test that antt computes over both.
 --     agrees       a table's answers, by a test on them, are what two lists of spans say by a rule
 --     spans-agree  the same of a third list of spans
+--     alike-at     two tables of one kind, with one default
 --     in-each      a list of spans as a table
 --     or-cases     the parts of an `||`
 --     same-truth   two tests that imply each other
@@ -11,7 +12,7 @@ use mathlib.Core.List.{List, [], _∷_}
 use mathlib.Core.Logic.{_⊎_, inl, inr}
 use lib.Dec.{T}
 use Rattle.replace.specs.Table.{Span, Row, _gives_, has, inSpans, lookup, each}
-use Rattle.replace.proofs.Rows.{Piece, At, null, not-null, passes, finds, other}
+use Rattle.replace.proofs.Rows.{Piece, At, null, not-null, passes, finds, other, only, finds-one, clear, finds-none}
 
 pub or-cases : (a b : Bool) → T (a || b) → T a ⊎ T b
 or-cases true b t = inl tt
@@ -79,3 +80,13 @@ module _ (rule : Bool → Bool → Bool) (ys zs : List Span) where
   pub spans-agree : {c : ℕ} (xs : List Span) (qs : List Piece) → T (agree (λ (b : Bool). b) (each xs true []) false qs) → At c qs →
       inSpans xs c ≡ rule (inSpans ys c) (inSpans zs c)
   spans-agree {c} xs qs t i = sym (in-each xs c) ∙ agrees (λ (b : Bool). b) (each xs true []) false qs t i
+
+-- Where a row of the first table decides, the second gives its answer; where none does, none of the second does.
+module _ {A : Type 0} (equal : A → A → Bool) (sound : (a b : A) → T (equal a b) → a ≡ b) (rs ss : List (Row A)) where
+  abbrev pub alike : List Piece → Bool
+  alike = passes (λ a qs. null qs || only equal sound a ss qs) (clear ss) rs
+
+  pub alike-at : {c : ℕ} (d : A) (qs : List Piece) → T (alike qs) → At c qs → lookup rs d c ≡ lookup ss d c
+  alike-at {c} d qs t i =
+      finds (λ v. v ≡ lookup ss d c) (λ a ps. null ps || only equal sound a ss ps) (clear ss) d
+      (λ a ps j u. finds-one equal sound a d ss ps (other (null ps) _ (not-null ps j) u) j) (λ ps j u. finds-none d ss ps u j) rs qs t i
