@@ -1,51 +1,25 @@
--- What the Rust's `check_basic_text_char` gives. The oracle of the comparison was asked for every character: each run of like reasons
--- stands here, in order, and the first and the last of each run of like answers as examples. By computing, `check` gives the same.
---     everywhere    the reason at every character, by the runs
---     examples      the whole answers, at the ends of the runs
+-- What the Rust's `check_basic_text_char` gives, by computing.
+--     everywhere    the reason at every character: the table and the runs of the Rust's answers say the same
+--     examples      the entry's whole answers at the first and the last character of each run of like answers, as the oracle of the
+--                   comparison gives them
 use Prim.Native.Nat.{ℕ, _<_}
 use mathlib.Core.Path.{_≡_, refl}
 use mathlib.Core.List.{List, [], _∷_, _++_, map}
 use native.Mathlib.Omega.{arith}
 use lib.Dec.{eqb, eqb→eq}
 use Rattle.unicode.specs.Chars.{isChar}
-use Rattle.replace.specs.Table.{_to_, one, Row, _gives_, lookup}
+use Rattle.replace.specs.Table.{lookup}
 use Rattle.replace.specs.Replace.{replaceOf}
 use Rattle.replace.proofs.Rows.{_until_, here}
 use Rattle.replace.proofs.Spans.{alike-at}
 use Rattle.check_char.specs.Check.{refusals, reasonOf, checkNumbers, checkAnswer}
-
--- the runs; any other character is accepted
-abbrev runs : List (Row ℕ)
-runs =
-    0x0 to 0x8 gives 2 ∷ 0xb to 0x1a gives 2 ∷ 0x1c to 0x1f gives 2 ∷ 0x7f to 0x9f gives 2 ∷ one 0x149 gives 16 ∷
-    one 0x673 gives 16 ∷ 0x9e4 to 0x9e5 gives 16 ∷ 0xa64 to 0xa65 gives 16 ∷ 0xae4 to 0xae5 gives 16 ∷
-    0xb64 to 0xb65 gives 16 ∷ 0xbe4 to 0xbe5 gives 16 ∷ 0xc64 to 0xc65 gives 16 ∷ 0xce4 to 0xce5 gives 16 ∷
-    0xd64 to 0xd65 gives 16 ∷ one 0xf77 gives 16 ∷ one 0xf79 gives 16 ∷ 0x17a3 to 0x17a4 gives 16 ∷
-    0x17b4 to 0x17b5 gives 13 ∷ one 0x17d8 gives 14 ∷ one 0x2028 gives 8 ∷ one 0x2029 gives 10 ∷
-    0x202a to 0x202e gives 5 ∷ 0x2066 to 0x2069 gives 5 ∷ 0x206a to 0x206f gives 3 ∷ 0x2072 to 0x2073 gives 16 ∷
-    one 0x2126 gives 16 ∷ 0x212a to 0x212b gives 16 ∷ 0x2329 to 0x232a gives 16 ∷ one 0x2df5 gives 16 ∷
-    0xf900 to 0xfa0d gives 16 ∷ one 0xfa10 gives 16 ∷ one 0xfa12 gives 16 ∷ 0xfa15 to 0xfa1e gives 16 ∷
-    one 0xfa20 gives 16 ∷ one 0xfa22 gives 16 ∷ 0xfa25 to 0xfa26 gives 16 ∷ 0xfa2a to 0xfa6d gives 16 ∷
-    0xfa70 to 0xfad9 gives 16 ∷ 0xfb00 to 0xfb06 gives 16 ∷ 0xfdd0 to 0xfdef gives 9 ∷ one 0xfeff gives 11 ∷
-    0xfff9 to 0xfffb gives 6 ∷ one 0xfffc gives 12 ∷ 0xfffe to 0xffff gives 9 ∷ one 0x111c4 gives 16 ∷
-    one 0x1d455 gives 16 ∷ one 0x1d49d gives 16 ∷ 0x1d4a0 to 0x1d4a1 gives 16 ∷ 0x1d4a3 to 0x1d4a4 gives 16 ∷
-    0x1d4a7 to 0x1d4a8 gives 16 ∷ one 0x1d4ad gives 16 ∷ one 0x1d4ba gives 16 ∷ one 0x1d4bc gives 16 ∷
-    one 0x1d4c4 gives 16 ∷ one 0x1d506 gives 16 ∷ 0x1d50b to 0x1d50c gives 16 ∷ one 0x1d515 gives 16 ∷
-    one 0x1d51d gives 16 ∷ one 0x1d53a gives 16 ∷ one 0x1d53f gives 16 ∷ one 0x1d545 gives 16 ∷
-    0x1d547 to 0x1d549 gives 16 ∷ one 0x1d551 gives 16 ∷ 0x1fffe to 0x1ffff gives 9 ∷ 0x2f800 to 0x2fa1d gives 16 ∷
-    0x2fffe to 0x2ffff gives 9 ∷ 0x3fffe to 0x3ffff gives 9 ∷ 0x4fffe to 0x4ffff gives 9 ∷
-    0x5fffe to 0x5ffff gives 9 ∷ 0x6fffe to 0x6ffff gives 9 ∷ 0x7fffe to 0x7ffff gives 9 ∷
-    0x8fffe to 0x8ffff gives 9 ∷ 0x9fffe to 0x9ffff gives 9 ∷ 0xafffe to 0xaffff gives 9 ∷
-    0xbfffe to 0xbffff gives 9 ∷ 0xcfffe to 0xcffff gives 9 ∷ 0xdfffe to 0xdffff gives 9 ∷ one 0xe0001 gives 7 ∷
-    0xefffe to 0xeffff gives 9 ∷ 0xffffe to 0xfffff gives 9 ∷ 0x10fffe to 0x10ffff gives 9 ∷
-    []
+use Rattle.check_char.specs.Runs.{reasonRuns}
 
 -- "4 a character refused by `check_basic_text_char` .. with the reason as the place in `BasicTextError` counted from 1"
-pub everywhere : (c : ℕ) → c < 0x110000 → reasonOf c ≡ lookup runs 0 c
+pub everywhere : (c : ℕ) → c < 0x110000 → reasonOf c ≡ lookup reasonRuns 0 c
 unfolding reasonOf
-everywhere c h = alike-at eqb eqb→eq refusals runs 0 (0 until 0x110000 ∷ []) tt (here {x = 0} (omega arith) h)
+everywhere c h = alike-at eqb eqb→eq refusals reasonRuns 0 (0 until 0x110000 ∷ []) tt (here {x = 0} (omega arith) h)
 
--- ---- examples
 -- a number, and the answer's numbers
 abbrev Example : Type 0
 Example = ℕ × List ℕ

@@ -1,5 +1,5 @@
 -- The proofs of this crate: from the check's answer to those of the entries (`Answers`), and what replacement and check do to every
--- character (`Clean`); the check's lists held to Unicode's (`Sources`), the Rust's answers at the ends of every range (`Examples`), the
+-- character (`Clean`); the check's lists held to Unicode's (`Sources`), the Rust's answers (`Examples`), the
 -- order of refusals (`Order`), what one carries (`Carried`), and that no two answers list alike (`Back`).
 pub mod Answers
 pub mod Clean

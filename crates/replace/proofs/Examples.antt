@@ -1,57 +1,25 @@
--- What the Rust's `replace` gives. The oracle of the comparison was asked for every character: each run of like answers stands here,
--- in order, and the first and the last of each as examples. By computing, `replacement` gives the same.
---     everywhere    at every character, by the runs
---     examples      the whole answers, at the ends of the runs
+-- What the Rust's `replace` gives, by computing.
+--     everywhere    at every character: the table and the runs of the Rust's answers say the same
+--     examples      the entry's whole answers at the first and the last character of each run, and of what lies between, as the oracle of
+--                   the comparison gives them
 use Prim.Native.Nat.{ℕ, _<_}
 use mathlib.Core.Path.{_≡_, refl}
 use mathlib.Core.List.{List, [], _∷_, _++_, map}
 use native.Mathlib.Omega.{arith}
 use Rattle.unicode.specs.Chars.{isChar}
-use Rattle.replace.specs.declared.Replaced.{Replaced}
-use Rattle.replace.specs.declared.Replaced.the-variants.{One, Two, Three}
-use Rattle.replace.specs.Table.{_to_, one, Row, _gives_, lookup}
+use Rattle.replace.specs.declared.Replaced.the-variants.{One}
+use Rattle.replace.specs.Table.{lookup}
 use Rattle.replace.specs.Replace.{replacements, replaceOf, replacementOf}
+use Rattle.replace.specs.Runs.{replacementRuns}
 use Rattle.replace.proofs.Rows.{_until_, here}
 use Rattle.replace.proofs.Same.{same-replaced, same-replaced→eq}
 use Rattle.replace.proofs.Spans.{alike-at}
 
--- the runs; any other character is itself
-abbrev runs : List (Row Replaced)
-runs =
-    0x0 to 0x8 gives One 0xfffd ∷ one 0xb gives One 0xfffd ∷ one 0xc gives One 0x20 ∷ 0xd to 0x1a gives One 0xfffd ∷
-    0x1c to 0x1f gives One 0xfffd ∷ 0x7f to 0x84 gives One 0xfffd ∷ one 0x85 gives One 0x20 ∷
-    0x86 to 0x9f gives One 0xfffd ∷ one 0x149 gives Two 0x2bc 0x6e ∷ one 0x673 gives Two 0x627 0x65f ∷
-    0x9e4 to 0x9e5 gives One 0xfffd ∷ 0xa64 to 0xa65 gives One 0xfffd ∷ 0xae4 to 0xae5 gives One 0xfffd ∷
-    0xb64 to 0xb65 gives One 0xfffd ∷ 0xbe4 to 0xbe5 gives One 0xfffd ∷ 0xc64 to 0xc65 gives One 0xfffd ∷
-    0xce4 to 0xce5 gives One 0xfffd ∷ 0xd64 to 0xd65 gives One 0xfffd ∷ one 0xf77 gives Two 0xfb2 0xf81 ∷
-    one 0xf79 gives Two 0xfb3 0xf81 ∷ one 0x17a3 gives One 0x17a2 ∷ one 0x17a4 gives Two 0x17a2 0x17b6 ∷
-    0x17b4 to 0x17b5 gives One 0xfffd ∷ one 0x17d8 gives One 0xfffd ∷ 0x2028 to 0x2029 gives One 0x20 ∷
-    0x202a to 0x202e gives One 0xfffd ∷ 0x2066 to 0x206f gives One 0xfffd ∷ 0x2072 to 0x2073 gives One 0xfffd ∷
-    0x2329 to 0x232a gives One 0xfffd ∷ one 0x2df5 gives Two 0x2ded 0x2dee ∷ one 0xfb00 gives Two 0x66 0x66 ∷
-    one 0xfb01 gives Two 0x66 0x69 ∷ one 0xfb02 gives Two 0x66 0x6c ∷ one 0xfb03 gives Three 0x66 0x66 0x69 ∷
-    one 0xfb04 gives Three 0x66 0x66 0x6c ∷ one 0xfb05 gives Two 0x17f 0x74 ∷ one 0xfb06 gives Two 0x73 0x74 ∷
-    0xfdd0 to 0xfdef gives One 0xfffd ∷ one 0xfeff gives One 0x2060 ∷ 0xfff9 to 0xfffc gives One 0xfffd ∷
-    0xfffe to 0xffff gives One 0xfffd ∷ one 0x111c4 gives Two 0x1118f 0x11180 ∷ one 0x1d455 gives One 0xfffd ∷
-    one 0x1d49d gives One 0xfffd ∷ 0x1d4a0 to 0x1d4a1 gives One 0xfffd ∷ 0x1d4a3 to 0x1d4a4 gives One 0xfffd ∷
-    0x1d4a7 to 0x1d4a8 gives One 0xfffd ∷ one 0x1d4ad gives One 0xfffd ∷ one 0x1d4ba gives One 0xfffd ∷
-    one 0x1d4bc gives One 0xfffd ∷ one 0x1d4c4 gives One 0xfffd ∷ one 0x1d506 gives One 0xfffd ∷
-    0x1d50b to 0x1d50c gives One 0xfffd ∷ one 0x1d515 gives One 0xfffd ∷ one 0x1d51d gives One 0xfffd ∷
-    one 0x1d53a gives One 0xfffd ∷ one 0x1d53f gives One 0xfffd ∷ one 0x1d545 gives One 0xfffd ∷
-    0x1d547 to 0x1d549 gives One 0xfffd ∷ one 0x1d551 gives One 0xfffd ∷ 0x1fffe to 0x1ffff gives One 0xfffd ∷
-    0x2fffe to 0x2ffff gives One 0xfffd ∷ 0x3fffe to 0x3ffff gives One 0xfffd ∷ 0x4fffe to 0x4ffff gives One 0xfffd ∷
-    0x5fffe to 0x5ffff gives One 0xfffd ∷ 0x6fffe to 0x6ffff gives One 0xfffd ∷ 0x7fffe to 0x7ffff gives One 0xfffd ∷
-    0x8fffe to 0x8ffff gives One 0xfffd ∷ 0x9fffe to 0x9ffff gives One 0xfffd ∷ 0xafffe to 0xaffff gives One 0xfffd ∷
-    0xbfffe to 0xbffff gives One 0xfffd ∷ 0xcfffe to 0xcffff gives One 0xfffd ∷ 0xdfffe to 0xdffff gives One 0xfffd ∷
-    one 0xe0001 gives One 0xfffd ∷ 0xefffe to 0xeffff gives One 0xfffd ∷ 0xffffe to 0xfffff gives One 0xfffd ∷
-    0x10fffe to 0x10ffff gives One 0xfffd ∷
-    []
-
 -- "Replacement is one decision over all characters, as `replace` has it; anything else is itself."
-pub everywhere : (c : ℕ) → c < 0x110000 → replaceOf c ≡ lookup runs (One c) c
+pub everywhere : (c : ℕ) → c < 0x110000 → replaceOf c ≡ lookup replacementRuns (One c) c
 unfolding replaceOf
-everywhere c h = alike-at same-replaced same-replaced→eq replacements runs (One c) (0 until 0x110000 ∷ []) tt (here {x = 0} (omega arith) h)
+everywhere c h = alike-at same-replaced same-replaced→eq replacements replacementRuns (One c) (0 until 0x110000 ∷ []) tt (here {x = 0} (omega arith) h)
 
--- ---- examples
 -- a number, and the answer's numbers
 abbrev Example : Type 0
 Example = ℕ × List ℕ

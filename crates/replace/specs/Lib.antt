@@ -1,4 +1,6 @@
--- What a reader must believe of this crate: how a table of rows decides, the rows of `replace`, and the noncharacters by rule.
+-- What a reader must believe of this crate: how a table of rows decides, and the rows of `replace`; beside them, as second sources, the
+-- noncharacters by rule and the runs of the Rust's answers.
 pub mod Table
 pub mod Replace
 pub mod Nonchars
+pub mod Runs

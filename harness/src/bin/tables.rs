@@ -3,10 +3,12 @@
 //!
 //!     tables src SOURCES DATA CRATE      writes src/tables.rt
 //!     tables specs SOURCES DATA CRATE    writes specs/Tables.antt
-//!     tables refused SOURCES DATA CRATE  writes specs/Unicode.antt of the crate `check_char`, which stands beside it
+//!     tables unicode SOURCES DATA CRATE  writes specs/Unicode.antt of the crate `check_char`, which stands beside it
+//!     tables replaced SOURCES DATA CRATE writes specs/Runs.antt of the crate `replace`
+//!     tables reasons SOURCES DATA CRATE  writes specs/Runs.antt of the crate `check_char`
 //!     tables check SOURCES DATA CRATE    compares all with the crates' files, and the sources with each other
 
-use harness::tables::{check, files, refused, ORIGINAL};
+use harness::tables::{check, files, runs, unicode, ORIGINAL};
 use std::path::Path;
 use std::process::ExitCode;
 use std::{env, fs};
@@ -19,7 +21,9 @@ fn main() -> ExitCode {
     let made = match what.as_str() {
         "src" => original(sources).and_then(|text| files::src(&text)),
         "specs" => files::specs(Path::new(data)),
-        "refused" => refused::specs(Path::new(data)),
+        "unicode" => unicode::specs(Path::new(data)),
+        "replaced" => Ok(runs::replaced()),
+        "reasons" => Ok(runs::reasons()),
         "check" => check_all(sources, Path::new(data), Path::new(package)),
         _ => return usage(),
     };
@@ -36,14 +40,15 @@ fn main() -> ExitCode {
 }
 
 fn usage() -> ExitCode {
-    eprintln!("usage: tables src|specs|refused|check SOURCES DATA CRATE");
+    eprintln!("usage: tables src|specs|unicode|replaced|reasons|check SOURCES DATA CRATE");
     ExitCode::from(2)
 }
 
-/// Both crates' files.
+/// The files of all crates.
 fn check_all(sources: &str, data: &Path, package: &Path) -> Result<String, String> {
     let found = check::check(&original(sources)?, data, package)?;
-    Ok(found + &refused::check(data, &package.with_file_name("check_char"))?)
+    let crates = package.parent().ok_or("the crate is in no folder")?;
+    Ok(found + &unicode::check(data, &crates.join("check_char"))? + &runs::check(crates)?)
 }
 
 /// The text of the original's file.

@@ -5,7 +5,8 @@ pub mod check;
 pub mod data;
 pub mod files;
 pub mod original;
-pub mod refused;
+pub mod runs;
+pub mod unicode;
 
 use crate::page::Range;
 use std::collections::BTreeSet;
