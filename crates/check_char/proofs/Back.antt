@@ -3,19 +3,22 @@
 --     errorOf, error-back       a reason, by its place in the Rust's `BasicTextError`
 --     checkedOf, checked-back   what the check says
 --     answerOf, check-back      the entry's answer
+--     reason-back               a reason as plain numbers: the first of them, so many as it says, are the reason's
 use Prim.Native.Nat.{ℕ}
 use mathlib.Core.Bool.{false, cond}
 use mathlib.Core.List.{List, [], _∷_}
 use mathlib.Core.Path.{_≡_, refl, ap}
 use lib.Dec.{eqb}
-use lib.ListN.{getD}
+use lib.ListN.{getD, take}
 use Rattle.check_char.specs.declared.BasicTextError.{BasicTextError}
 use Rattle.check_char.specs.declared.BasicTextError.the-variants.{ColorEscapeSequence, ControlCode, DeprecatedFormatChar, Escape, BidiFormatChar, Interlinear, LanguageTag, LineSeparation, NonChar, ParaSeparation, UnneededBOM, OutOfBand, Omit, Beyyal, UnrecognizedEscape, Replacement}
 use Rattle.check_char.specs.declared.Checked.{Checked}
 use Rattle.check_char.specs.declared.Checked.the-variants.{Ok, Err}
 use Rattle.check_char.specs.declared.Answer.{Answer}
 use Rattle.check_char.specs.declared.Answer.the-variants.{Accepted, NotAChar, Refused}
+use Rattle.check_char.specs.declared.numbers.Reason.{Reason}
 use Rattle.check_char.specs.Check.{errorNumbers, reasonNumbers, checkAnswerNumbers}
+use Rattle.check_char.specs.Numbers.{reasonBy}
 
 -- the reason of these numbers
 -- "the reason as the place in `BasicTextError` counted from 1 (2 to 16; 1 is unused)"
@@ -79,3 +82,25 @@ pub check-back : (a : Answer) → answerOf (checkAnswerNumbers a) ≡ a
 check-back Accepted = refl
 check-back NotAChar = refl
 check-back (Refused e) = ap Refused (error-back e)
+
+-- the fields in order
+abbrev listed : Reason → List ℕ
+listed r = take (r .size) (r .number ∷ r .character ∷ r .count ∷ r .first ∷ r .second ∷ r .third ∷ [])
+
+pub reason-back : (e : BasicTextError) → listed (reasonBy (errorNumbers e)) ≡ errorNumbers e
+reason-back ColorEscapeSequence = refl
+reason-back (ControlCode c) = refl
+reason-back (DeprecatedFormatChar c) = refl
+reason-back Escape = refl
+reason-back BidiFormatChar = refl
+reason-back Interlinear = refl
+reason-back LanguageTag = refl
+reason-back LineSeparation = refl
+reason-back NonChar = refl
+reason-back ParaSeparation = refl
+reason-back UnneededBOM = refl
+reason-back OutOfBand = refl
+reason-back (Omit c) = refl
+reason-back Beyyal = refl
+reason-back UnrecognizedEscape = refl
+reason-back (Replacement y n) = refl

@@ -1,14 +1,15 @@
 -- The check's lists held to Unicode's: each law by one test that antt computes over the rows and the spans of a property
 -- (`agrees` of replace, Spans), at every number up to 10FFFF.
 --     excepted-are      the excepted are characters with a singleton decomposition: three signs, and all such ideographs of two blocks
+--     clean-are         a cleaned text may hold what is accepted or one of these, and no ESC
 --     control-codes     reason 2: the controls but for tab, newline and ESC
 --     deprecated-ones   reason 3: the deprecated ones of 2060..206F
 --     bidi-formats      reason 5: the bidi controls but for three marks
 --     separators        reasons 8 and 10: the line separator and the paragraph separator
 --     noncharacters     reason 9: the noncharacters, by Unicode's list and by its rule
 use Prim.Native.Nat.{ℕ, _<_}
-use mathlib.Core.Path.{_≡_, refl, _∙_}
-use mathlib.Core.Bool.{Bool, true, false, not, _&&_}
+use mathlib.Core.Path.{_≡_, refl, ap, _∙_}
+use mathlib.Core.Bool.{Bool, true, false, not, _&&_, _||_}
 use mathlib.Core.List.{List, [], _∷_}
 use native.Mathlib.Omega.{arith}
 use lib.Dec.{T, eqb}
@@ -18,7 +19,7 @@ use Rattle.replace.specs.Nonchars.{nonCharacter}
 use Rattle.replace.proofs.Rows.{Piece, _until_, At, here}
 use Rattle.replace.proofs.Spans.{agree, agrees, spans-agree}
 use Rattle.replace.proofs.Nonchars.{nonchars-are}
-use Rattle.check_char.specs.Check.{excepted, refusals, reasonOf}
+use Rattle.check_char.specs.Check.{excepted, refusals, reasonOf, clean}
 use Rattle.check_char.specs.Unicode.{control, lineSeparator, paragraphSeparator, deprecated, bidiControl, noncharacterCodePoint, compatibilityIdeographs, singletonDecomposition}
 
 abbrev line : List Piece
@@ -49,6 +50,10 @@ pub excepted-are : (c : ℕ) → c < 0x110000 →
 excepted-are c h =
     spans-agree _&&_ singletonDecomposition (one 0x2126 ∷ one 0x212a ∷ one 0x212b ∷ compatibilityIdeographs) excepted line tt
     (here {x = 0} (omega arith) h)
+
+pub clean-are : (x : ℕ) → x < 0x110000 →
+    clean x ≡ (eqb (reasonOf x) 0 || (inSpans singletonDecomposition x && inSpans (one 0x2126 ∷ one 0x212a ∷ one 0x212b ∷ compatibilityIdeographs) x)) && not (eqb x 0x1b)
+clean-are x h = ap (λ (b : Bool). (eqb (reasonOf x) 0 || b) && not (eqb x 0x1b)) (excepted-are x h)
 
 -- "`check_basic_text_char` accepts 1B."
 pub control-codes : (c : ℕ) → c < 0x110000 → eqb (reasonOf c) 2 ≡ inSpans control c && not (inSpans (0x9 to 0xa ∷ one 0x1b ∷ []) c)
