@@ -3,6 +3,7 @@
 --     fill-order       the order of refusals
 --     fill-refused     a refusal answers its number alone, and leaves every byte
 --     filled           any other fill: how many are taken, what is filled, what is zeroed
+--     taken-only       the words leave no choice of how many are taken
 use Prim.Native.Nat.{ℕ, zero, suc, _+_, _-_, _≤_, _<_}
 use mathlib.Core.Bool.{Bool, true, false, cond, not}
 use mathlib.Core.List.{List, [], _∷_, _++_}
@@ -66,6 +67,14 @@ while-four free (c ∷ cs) =
         before : (i : ℕ) → i < suc t → length (encodeAll (take i (c ∷ cs))) + 4 ≤ free
         before zero h = omega arith
         before (suc i) h = simp length-append (omega (arith, w .each i (omega arith)))
+
+-- were it fewer, at least 4 bytes would be free before the next one
+no-fewer : {queue : List ℕ} {room t u : ℕ} → WhileFour queue room t → WhileFour queue room u → u ≤ t
+no-fewer {queue} {room} {t} {u} v w =
+    by-lt t u (λ h. absurd (omega (arith, w .each t h, v .left (omega (arith, w .first))))) (λ h. h)
+
+pub taken-only : {queue : List ℕ} {room t u : ℕ} → WhileFour queue room t → WhileFour queue room u → t ≡ u
+taken-only v w = omega (arith, no-fewer v w, no-fewer w v)
 
 -- ---- the bytes zeroed
 length-zeroed : (bs : List ℕ) → length (zeroed bs) ≡ length bs
