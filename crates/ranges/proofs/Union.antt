@@ -1,0 +1,139 @@
+-- Tables of ranges taken together, and a test that two tables have the same numbers: each is put in order and ranges that meet are made
+-- one; two tables that come to the same list have the same members. No law here asks for a rising table.
+--     lists             whether a table has a number
+--     union             two tables put into one, by their firsts
+--     lists-union       its numbers are those of the two
+--     without           a table without the numbers of another
+--     lists-without     its numbers are those of the one and not of the other
+--     joined            ranges that overlap or adjoin made one
+--     lists-joined      its numbers are the same
+--     same-numbers      two tables that are the same when joined have the same numbers
+use mathlib.Core.Path.{_≡_, refl, sym, ap, _∙_}
+use mathlib.Core.Bool.{Bool, true, false, not, cond, _&&_, _||_, and-true, and-false, or-assoc, or-true}
+use mathlib.Core.List.{List, [], _∷_}
+use Prim.Native.Nat.{ℕ, suc, min, max, _≤_}
+use native.Mathlib.Omega.{arith}
+use lib.Dec.{leb}
+use borrow.Author.Tests.{le-leb, lt-leb, leb-true}
+use Rattle.common.proofs.Kit.{by-lt, both-true}
+use Rattle.ranges.specs.Ranges.{member, firstsOf, lastsOf}
+use Rattle.ranges.proofs.Minus.{minus, member-minus}
+
+abbrev pub lists : List (ℕ × ℕ) → ℕ → Bool
+lists t c = member (firstsOf t) (lastsOf t) c
+
+-- c lies from a to b
+abbrev within : ℕ → ℕ → ℕ → Bool
+within a b c = leb a c && leb c b
+
+-- ---- two tables as one
+-- by the test, r in front of the others, or q and then what r is put into
+abbrev before : Bool → ℕ × ℕ → ℕ × ℕ → List (ℕ × ℕ) → List (ℕ × ℕ) → List (ℕ × ℕ)
+before true r q t rest = r ∷ q ∷ t
+before false r q t rest = q ∷ rest
+
+abbrev put : ℕ × ℕ → List (ℕ × ℕ) → List (ℕ × ℕ)
+put r [] = r ∷ []
+put r (q ∷ t) = before (leb (r .0) (q .0)) r q t (put r t)
+
+abbrev pub union : List (ℕ × ℕ) → List (ℕ × ℕ) → List (ℕ × ℕ)
+union [] t = t
+union (r ∷ s) t = put r (union s t)
+
+swap : (x y z : Bool) → x || (y || z) ≡ y || (x || z)
+swap true y z = sym (or-true y)
+swap false y z = refl
+
+lists-before : (b : Bool) (r q : ℕ × ℕ) (t rest : List (ℕ × ℕ)) (c : ℕ) → lists rest c ≡ within (r .0) (r .1) c || lists t c
+    → lists (before b r q t rest) c ≡ within (r .0) (r .1) c || (within (q .0) (q .1) c || lists t c)
+unfolding member
+lists-before true r q t rest c h = refl
+lists-before false r q t rest c h = rw h (swap (within (q .0) (q .1) c) (within (r .0) (r .1) c) (lists t c))
+
+lists-put : (r : ℕ × ℕ) (t : List (ℕ × ℕ)) (c : ℕ) → lists (put r t) c ≡ within (r .0) (r .1) c || lists t c
+unfolding member
+lists-put r [] c = refl
+lists-put r (q ∷ t) c = lists-before (leb (r .0) (q .0)) r q t (put r t) c (lists-put r t c)
+
+pub lists-union : (s t : List (ℕ × ℕ)) (c : ℕ) → lists (union s t) c ≡ lists s c || lists t c
+unfolding member
+lists-union [] t c = refl
+lists-union (r ∷ s) t c =
+    lists-put r (union s t) c
+    ∙ ap (λ (b : Bool). within (r .0) (r .1) c || b) (lists-union s t c)
+    ∙ sym (or-assoc (within (r .0) (r .1) c) (lists s c) (lists t c))
+
+-- ---- one table without another
+abbrev pub without : List (ℕ × ℕ) → List (ℕ × ℕ) → List (ℕ × ℕ)
+without [] t = t
+without (r ∷ s) t = minus (r .0) (r .1) (without s t)
+
+neither : (x y z : Bool) → (x && not y) && not z ≡ x && not (z || y)
+neither x y true = and-false (x && not y) ∙ sym (and-false x)
+neither x y false = and-true (x && not y)
+
+pub lists-without : (s t : List (ℕ × ℕ)) (c : ℕ) → lists (without s t) c ≡ lists t c && not (lists s c)
+unfolding member
+lists-without [] t c = sym (and-true (lists t c))
+lists-without (r ∷ s) t c =
+    member-minus (r .0) (r .1) (without s t) c
+    ∙ ap (λ (b : Bool). b && not (within (r .0) (r .1) c)) (lists-without s t c)
+    ∙ neither (lists t c) (lists s c) (within (r .0) (r .1) c)
+
+-- ---- ranges that meet made one
+-- the range so far in front, unless it goes on
+abbrev emit : Bool → ℕ → ℕ → List (ℕ × ℕ) → List (ℕ × ℕ)
+emit true a b rest = rest
+emit false a b rest = (a, b) ∷ rest
+
+-- two ranges overlap or adjoin
+abbrev meets : ℕ → ℕ → ℕ × ℕ → Bool
+meets a b q = leb (q .0) (suc b) && leb a (suc (q .1))
+
+-- the range so far goes from a to b
+abbrev joinedFrom : ℕ → ℕ → List (ℕ × ℕ) → List (ℕ × ℕ)
+joinedFrom a b [] = (a, b) ∷ []
+joinedFrom a b (q ∷ t) =
+    emit (meets a b q) a b (joinedFrom (cond (meets a b q) (min a (q .0)) (q .0)) (cond (meets a b q) (max b (q .1)) (q .1)) t)
+
+abbrev pub joined : List (ℕ × ℕ) → List (ℕ × ℕ)
+joined [] = []
+joined (r ∷ t) = joinedFrom (r .0) (r .1) t
+
+-- two ranges that meet, as one
+meet : (a b f l c : ℕ) → f ≤ suc b → a ≤ suc l → within (min a f) (max b l) c ≡ within a b c || within f l c
+meet a b f l c h k =
+    by-lt c (min a f)
+    (λ m. simp (lt-leb (min a f) c m, lt-leb a c (omega arith), lt-leb f c (omega arith)))
+    (λ m. by-lt (max b l) c
+    (λ n. simp (lt-leb c (max b l) n, lt-leb c b (omega arith), lt-leb c l (omega arith), and-false))
+    (λ n. by-lt c a
+    (λ o. simp (le-leb (min a f) c m, le-leb c (max b l) n, le-leb f c (omega arith), le-leb c l (omega arith), or-true))
+    (λ o. by-lt b c
+    (λ q. simp (le-leb (min a f) c m, le-leb c (max b l) n, le-leb f c (omega arith), le-leb c l (omega arith), or-true))
+    (λ q. simp (le-leb (min a f) c m, le-leb c (max b l) n, le-leb a c o, le-leb c b q)))))
+
+lists-emit : (e : Bool) (a b : ℕ) (q : ℕ × ℕ) (t : List (ℕ × ℕ)) (c : ℕ) → meets a b q ≡ e
+    → ((x y : ℕ) → lists (joinedFrom x y t) c ≡ within x y c || lists t c)
+    → lists (emit e a b (joinedFrom (cond e (min a (q .0)) (q .0)) (cond e (max b (q .1)) (q .1)) t)) c
+    ≡ within a b c || (within (q .0) (q .1) c || lists t c)
+unfolding member
+lists-emit true a b q t c m h =
+    let p = both-true (leb (q .0) (suc b)) (leb a (suc (q .1))) m in
+    h (min a (q .0)) (max b (q .1))
+    ∙ ap (λ (x : Bool). x || lists t c) (meet a b (q .0) (q .1) c (leb-true _ _ (p .0)) (leb-true _ _ (p .1)))
+    ∙ or-assoc (within a b c) (within (q .0) (q .1) c) (lists t c)
+lists-emit false a b q t c m h = ap (λ (x : Bool). within a b c || x) (h (q .0) (q .1))
+
+lists-from : (a b : ℕ) (t : List (ℕ × ℕ)) (c : ℕ) → lists (joinedFrom a b t) c ≡ within a b c || lists t c
+unfolding member
+lists-from a b [] c = refl
+lists-from a b (q ∷ t) c = lists-emit (meets a b q) a b q t c refl (λ x y. lists-from x y t c)
+
+pub lists-joined : (t : List (ℕ × ℕ)) (c : ℕ) → lists (joined t) c ≡ lists t c
+unfolding member
+lists-joined [] c = refl
+lists-joined (r ∷ t) c = lists-from (r .0) (r .1) t c
+
+pub same-numbers : (s t : List (ℕ × ℕ)) → joined s ≡ joined t → (c : ℕ) → lists s c ≡ lists t c
+same-numbers s t e c = sym (lists-joined s c) ∙ ap (λ (u : List (ℕ × ℕ)). lists u c) e ∙ lists-joined t c
