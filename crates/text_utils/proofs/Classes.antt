@@ -5,9 +5,10 @@
 --     end-clear            in such a span every character but 200D is an end: one test, which antt computes
 --     start-newline ..     on every accepted page 0A, 20 and 34F are starts
 --     end-newline ..       0A, 20 and 34F are ends
+--     private-use          private use is the three areas of The Unicode Standard, section 23.5
 --     class-back           an answer read back from its numbers: no two answers list alike
 use mathlib.Core.Path.{_≡_, refl}
-use mathlib.Core.Bool.{Bool, true, false, not, _&&_, and-true}
+use mathlib.Core.Bool.{Bool, true, false, not, _&&_, _||_, and-true, or-false}
 use mathlib.Core.List.{List, [], _∷_}
 use Prim.Native.Nat.{ℕ, _≤_, _<_}
 use native.Mathlib.Omega.{arith}
@@ -21,7 +22,7 @@ use Rattle.page.proofs.PageLaws.{facts-of-accepted}
 use Rattle.text_utils.specs.declared.Class.{Class}
 use Rattle.text_utils.specs.declared.Class.the-variants.{Is, Refused}
 use Rattle.text_utils.specs.Tables.{consonantPrecedingRepha, consonantPrefixed, prependedConcatenationMark}
-use Rattle.text_utils.specs.Classes.{listed, starter, graphemeExtendNotCgj, spacingMarkPlus, basicTextStart, basicTextEnd, classNumbers}
+use Rattle.text_utils.specs.Classes.{listed, starter, graphemeExtendNotCgj, spacingMarkPlus, basicTextStart, basicTextEnd, isPrivateUse, classNumbers}
 use Rattle.text_utils.proofs.Rising.{high-extend, high-emoji, high-spacing}
 
 -- being m, as a range of one character
@@ -84,6 +85,12 @@ end-space = end-clear 0 0x5ff refl 0x20 (omega arith) (omega arith)
 
 pub end-joiner : basicTextEnd 0x34f ≡ true
 end-joiner = end-clear 0 0x5ff refl 0x34f (omega arith) (omega arith)
+
+-- "an unassigned character outside private use": E000..F8FF, F0000..FFFFD and 100000..10FFFD
+pub private-use : (c : ℕ)
+    → isPrivateUse c ≡ (leb 0xE000 c && leb c 0xF8FF) || ((leb 0xF0000 c && leb c 0xFFFFD) || (leb 0x100000 c && leb c 0x10FFFD))
+unfolding isPrivateUse member
+private-use c = simp or-false
 
 -- the answer of these numbers
 abbrev pub classOf : List ℕ → Class

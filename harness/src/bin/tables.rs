@@ -1,8 +1,9 @@
-//! The generated files of the crate `text_utils`. The folders are those of the original's sources, of Unicode's data and
-//! of the crate.
+//! The generated files of the crates `text_utils`, `replace` and `check_char`. The folders are those of the original's sources, of Unicode's
+//! data and of the crate `text_utils`, beside which the others stand.
 //!
 //!     tables src SOURCES DATA CRATE      writes src/tables.rt
 //!     tables specs SOURCES DATA CRATE    writes specs/Tables.antt
+//!     tables breaks SOURCES DATA CRATE   writes specs/Breaks.antt
 //!     tables unicode SOURCES DATA CRATE  writes specs/Unicode.antt of the crate `check_char`, which stands beside it
 //!     tables replaced SOURCES DATA CRATE writes specs/Runs.antt of the crate `replace`
 //!     tables reasons SOURCES DATA CRATE  writes specs/Runs.antt of the crate `check_char`
@@ -21,6 +22,7 @@ fn main() -> ExitCode {
     let made = match what.as_str() {
         "src" => original(sources).and_then(|text| files::src(&text)),
         "specs" => files::specs(Path::new(data)),
+        "breaks" => files::breaks(Path::new(data)),
         "unicode" => unicode::specs(Path::new(data)),
         "replaced" => Ok(runs::replaced()),
         "reasons" => Ok(runs::reasons()),
@@ -40,7 +42,7 @@ fn main() -> ExitCode {
 }
 
 fn usage() -> ExitCode {
-    eprintln!("usage: tables src|specs|unicode|replaced|reasons|check SOURCES DATA CRATE");
+    eprintln!("usage: tables src|specs|breaks|unicode|replaced|reasons|check SOURCES DATA CRATE");
     ExitCode::from(2)
 }
 

@@ -15,12 +15,13 @@ const ZWJ: u32 = 0x200D;
 /// The two characters that the original, and UAX #29, add to SpacingMark.
 const ADDED_TO_SPACING_MARK: [u32; 2] = [0xE33, 0xEB3];
 
-/// Both files, then both sources: what is found, or the first fault. `text` is the original's file, `folder` that of
+/// The files, then both sources: what is found, or the first fault. `text` is the original's file, `folder` that of
 /// Unicode's data, `package` that of the crate.
 pub fn check(text: &str, folder: &Path, package: &Path) -> Result<String, String> {
     let mut found = vec![
         same(package, "src/tables.rt", &files::src(text)?)?,
         same(package, "specs/Tables.antt", &files::specs(folder)?)?,
+        same(package, "specs/Breaks.antt", &files::breaks(folder)?)?,
     ];
     for property in &PROPERTIES {
         found.push(differences(text, folder, property)?);

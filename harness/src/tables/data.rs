@@ -14,6 +14,11 @@ pub fn ranges(folder: &Path, property: &Property) -> Result<Vec<Range>, String> 
     }
 }
 
+/// The ranges whose Grapheme_Cluster_Break is this one.
+pub fn break_ranges(folder: &Path, value: &str) -> Result<Vec<Range>, String> {
+    of_file(folder, BREAK, value)
+}
+
 /// The characters whose Grapheme_Cluster_Break is one of these.
 pub fn of_break(folder: &Path, values: &[&str]) -> Result<Set, String> {
     let mut all = Set::new();
