@@ -1,6 +1,6 @@
 -- The proofs of this crate: that every table rises (`Rising`), the classes with their quick ways (`Classes`), and by UAX #29 (`Uax29`);
--- what the entries answer (`Entries`).
+-- what the entries answer (`Answers`).
 pub mod Rising
 pub mod Classes
 pub mod Uax29
-pub mod Entries
+pub mod Answers

@@ -3,15 +3,18 @@
 -- have the same numbers (ranges, Union). So it is with the characters that are no end.
 --     start-by-uax29     a start, by the page and Grapheme_Cluster_Break; 34F apart
 --     end-by-uax29       an end, by Grapheme_Cluster_Break; 890 and 891 apart
+--     start-answer, end-answer     so the entries, where they do not refuse, answer the class by UAX #29
 use mathlib.Core.Path.{_≡_, refl, sym, ap, _∙_}
-use mathlib.Core.Bool.{Bool, true, false, not, _&&_, _||_, and-true, and-false, or-false}
+use mathlib.Core.Bool.{Bool, true, false, not, _&&_, _||_, cond, and-true, and-false, or-false}
 use mathlib.Core.List.{List, [], _∷_}
 use Prim.Native.Nat.{ℕ}
 use lib.Dec.{leb, eqb}
+use Rattle.unicode.specs.Chars.{isChar}
 use Rattle.ranges.specs.Ranges.{member}
 use Rattle.ranges.proofs.Union.{lists, union, lists-union, without, lists-without, joined, same-numbers}
+use Rattle.page.specs.Page.{accepted}
 use Rattle.text_utils.specs.Tables.{graphemeExtend, emojiModifier, spacingMark, spacingMarkExceptions, consonantPrecedingRepha, consonantPrefixed, prependedConcatenationMark}
-use Rattle.text_utils.specs.Classes.{starter, graphemeExtendNotCgj, spacingMarkPlus, basicTextStart, basicTextEnd}
+use Rattle.text_utils.specs.Classes.{starter, graphemeExtendNotCgj, spacingMarkPlus, basicTextStart, basicTextEnd, startClass, endClass}
 use Rattle.text_utils.specs.Breaks.{breakExtend, breakZwj, breakSpacingMark, breakPrepend}
 use Rattle.text_utils.specs.Uax29.{has, startByUax29, endByUax29}
 use Rattle.text_utils.proofs.Classes.{one-char}
@@ -101,3 +104,11 @@ module _ (pr px pc bp bz : List (ℕ × ℕ)) (same : joined (no-ends pr px pc) 
 pub end-by-uax29 : (c : ℕ) → basicTextEnd c ≡ endByUax29 c
 unfolding basicTextEnd endByUax29
 end-by-uax29 c = ends consonantPrecedingRepha consonantPrefixed prependedConcatenationMark breakPrepend breakZwj refl c
+
+-- ---- the entries
+-- "Start and end as `is_basic_text_start`, `is_basic_text_end`."
+pub start-answer : (p : List ℕ) (c : ℕ) → accepted p ≡ true → isChar c ≡ true → startClass p c ≡ 0 ∷ cond (startByUax29 p c) 1 0 ∷ []
+start-answer p c a h = simp (a, h, start-by-uax29 p c)
+
+pub end-answer : (c : ℕ) → isChar c ≡ true → endClass c ≡ 0 ∷ cond (endByUax29 c) 1 0 ∷ []
+end-answer c h = simp (h, end-by-uax29 c)

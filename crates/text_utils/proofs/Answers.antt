@@ -1,8 +1,7 @@
 -- What the two entries answer, by document 01's sentences written out, and as rows that antt computes. The rows' answers are the oracle's
 -- (`L start` and `L end` of its scripts, behind `P` with the row's page).
---     start-order, end-order       by which number each refuses, and in which order
---     start-answer, end-answer     what each answers where it does not refuse: the class by UAX #29
---     start-rows, end-rows         rows: each refusal, both at once, and characters of each class
+--     start-order, end-order     by which number each refuses, and in which order
+--     start-rows, end-rows       rows: each refusal, both at once, and characters of each class
 use mathlib.Core.Path.{_≡_, refl}
 use mathlib.Core.Bool.{Bool, true, false, not, cond, _&&_, _||_}
 use mathlib.Core.List.{List, [], _∷_, map}
@@ -14,8 +13,6 @@ use Rattle.unicode.specs.Chars.{isChar}
 use Rattle.ranges.specs.Ranges.{member, rises}
 use Rattle.page.specs.Page.{sized, rising, nonstarter, assigned, accepted}
 use Rattle.text_utils.specs.Classes.{starter, graphemeExtendNotCgj, spacingMarkPlus, basicTextStart, basicTextEnd, startClass, endClass}
-use Rattle.text_utils.specs.Uax29.{startByUax29, endByUax29}
-use Rattle.text_utils.proofs.Uax29.{start-by-uax29, end-by-uax29}
 
 -- "1 a value in D800..DFFF or above 10FFFF."
 abbrev no-char : ℕ → Bool
@@ -38,15 +35,6 @@ end-order c = go (no-char c) _
     go : (b : Bool) (n : ℕ) → refusalIn (cond (not b) (0 ∷ n ∷ []) (1 ∷ [])) ≡ firstOf (1 when b ∷ [])
     go true n = refl
     go false n = refl
-
--- "Start and end as `is_basic_text_start`, `is_basic_text_end`."
-pub start-answer : (p : List ℕ) (c : ℕ) → accepted p ≡ true → no-char c ≡ false → startClass p c ≡ 0 ∷ cond (startByUax29 p c) 1 0 ∷ []
-unfolding isChar
-start-answer p c a h = simp (a, h, start-by-uax29 p c)
-
-pub end-answer : (c : ℕ) → no-char c ≡ false → endClass c ≡ 0 ∷ cond (endByUax29 c) 1 0 ∷ []
-unfolding isChar
-end-answer c h = simp (h, end-by-uax29 c)
 
 -- by this page each of the characters gets this answer
 pub record Row : Type 0 where
