@@ -1,9 +1,11 @@
 //! Compares two files of answers to a script of one kind: `answers KIND SCRIPT ORACLE OURS`. Prints how many answers were
-//! compared, those by `?` apart, to which operations, and how often each refusal was met. It ends with 1, and says why, at the
-//! first difference, at an answer that is missing on either side or on both, at an answer too many, at a script without
+//! compared, those by `?` apart, to which operations, how often each refusal was met, and how many long calls stood at their limit
+//! of places: with exactly what they need, and with one place less. It ends with 1, and says why, at the first difference, at an answer that is missing on either side or on both, at an answer too many, at a script without
 //! operations, and where an operation or a refusal that the kind must have was not met.
 
-use harness::scripts::KINDS;
+use harness::scripts::lent::lent;
+use harness::scripts::write::Known;
+use harness::scripts::{KINDS, LONG};
 use harness::words::is_operation;
 use std::collections::BTreeMap;
 use std::fmt;
@@ -50,6 +52,10 @@ struct Met {
     /// The answers that were compared, by their operations.
     operations: BTreeMap<String, usize>,
     refusals: BTreeMap<u32, usize>,
+    /// The long calls at their limit, by the names that a kind asks for.
+    long: BTreeMap<String, usize>,
+    /// The writer, whose kept and held characters need places too.
+    writer: Known,
     /// The answers by `?`, of which nothing is compared.
     faults: usize,
 }
@@ -93,11 +99,32 @@ impl Met {
         if let Some(number) = refusal(answer) {
             *self.refusals.entry(number).or_default() += 1;
         }
+        // Each of its characters is a blank and a digit at least.
+        if operation.len() > 2 * LONG {
+            self.learn_long(operation, answer);
+        }
+        if operation.starts_with('W') {
+            self.writer.learn(operation, answer);
+        }
+    }
+
+    fn learn_long(&mut self, operation: &str, answer: &str) {
+        let Some(lent) = lent(operation, self.writer.needed).filter(|lent| lent.length >= LONG) else {
+            return;
+        };
+        let which = if lent.room == lent.needed && answer.starts_with("ok") {
+            "long"
+        } else if lent.room + 1 == lent.needed && refusal(answer) == Some(8) {
+            "long short"
+        } else {
+            return;
+        };
+        *self.long.entry(format!("{} {which}", name(operation))).or_default() += 1;
     }
 
     /// Itself, if it has all of these.
     fn with_all(self, operations: &str, refusals: &[u32]) -> Outcome {
-        if let Some(name) = operations.split(", ").find(|name| !self.operations.contains_key(*name)) {
+        if let Some(name) = operations.split(", ").find(|name| !self.has(name)) {
             return Err(format!("NOTHING COMPARED: no answer to {name}"));
         }
         if let Some(number) = refusals.iter().find(|number| !self.refusals.contains_key(number)) {
@@ -105,19 +132,31 @@ impl Met {
         }
         Ok(self)
     }
+
+    fn has(&self, name: &str) -> bool {
+        self.operations.contains_key(name) || self.long.contains_key(name)
+    }
 }
 
 impl fmt::Display for Met {
     fn fmt(&self, f: &mut fmt::Formatter<'_>) -> fmt::Result {
-        let operations: Vec<String> = self.operations.iter().map(|(name, count)| format!("{name} {count}")).collect();
         let refusals: Vec<String> = self.refusals.iter().map(|(number, count)| format!("{number}: {count}")).collect();
         let compared: usize = self.operations.values().sum();
-        write!(f, "{compared} answers compared, and {} by ?\n  {}", self.faults, operations.join(", "))?;
-        if refusals.is_empty() {
-            return Ok(());
+        write!(f, "{compared} answers compared, and {} by ?\n  {}", self.faults, counts(&self.operations))?;
+        if !refusals.is_empty() {
+            write!(f, "\n  refused by {}", refusals.join(", "))?;
         }
-        write!(f, "\n  refused by {}", refusals.join(", "))
+        if !self.long.is_empty() {
+            write!(f, "\n  at the limit of places: {}", counts(&self.long))?;
+        }
+        Ok(())
     }
+}
+
+/// Names with how often they were met.
+fn counts(met: &BTreeMap<String, usize>) -> String {
+    let counts: Vec<String> = met.iter().map(|(name, count)| format!("{name} {count}")).collect();
+    counts.join(", ")
 }
 
 /// The part of an answer that is compared: all before `#`; of a line that begins with `?` that sign alone.

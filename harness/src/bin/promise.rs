@@ -1,9 +1,12 @@
 //! Holds answers to a script of the kind `demand` to demand 3: `promise SCRIPT ANSWERS`. Where the queue holds none of the
 //! excepted characters, the queue is the same for both cuts of the text, its one write hands out what isolation of the
-//! queue as one run gives, and the close succeeds. Prints how many queues passed, or the first that does not. A missing answer
-//! is a failure, and so is a script that has no queue to pass, or none with an excepted character.
+//! queue as one run gives, and the close succeeds. Prints how many queues passed, of these how many where every call that succeeds
+//! is lent exactly what it needs, and how many such of thousands of characters; or the first that does not pass. A missing answer is
+//! a failure, and so is a script that has none of one of these, or no queue with an excepted character.
 
 use harness::leaves::is_excepted;
+use harness::scripts::lent::lent;
+use harness::scripts::LONG;
 use harness::words::{is_operation, listed};
 use std::fs::read_to_string;
 use std::io;
@@ -26,8 +29,12 @@ fn main() -> io::Result<ExitCode> {
             return Ok(ExitCode::FAILURE);
         }
     }
-    println!("{} queues pass, {} hold an excepted character", seen.passed, seen.excepted);
-    Ok(ExitCode::from(u8::from(seen.passed == 0 || seen.excepted == 0)))
+    println!(
+        "{} queues pass, {} of them with exactly the places that each call needs, {} of these of {LONG} characters or more; \
+         {} hold an excepted character",
+        seen.passed, seen.exact, seen.long, seen.excepted
+    );
+    Ok(ExitCode::from(u8::from(seen.exact == 0 || seen.long == 0 || seen.excepted == 0)))
 }
 
 /// What is seen of a text so far, and the counts.
@@ -39,25 +46,35 @@ struct Seen {
     /// The answers of the write and of the close.
     written: String,
     closed: String,
+    /// Whether a call that succeeded was lent more than it needs.
+    over: bool,
+    /// The queues that pass, those of them where none was, and those of these that are long.
     passed: usize,
+    exact: usize,
+    long: usize,
     excepted: usize,
 }
 
 impl Seen {
     fn learn(&mut self, operation: &str, answer: &str) -> Result<(), &'static str> {
+        // The writer is a fresh one: it keeps and holds nothing.
+        self.over |= answer.starts_with("ok") && lent(operation, 0).is_some_and(|lent| lent.room > lent.needed);
         let words: Vec<&str> = operation.split(' ').take(2).collect();
         match words.as_slice() {
             ["S", "new"] => self.other = std::mem::take(&mut self.queue),
             ["S", _] => self.queue.extend(listed(answer)),
             ["W", "chars"] => self.written = answer.to_owned(),
             ["W", "close"] => self.closed = answer.to_owned(),
-            ["L", "isolate"] => return self.judge(answer),
+            ["L", "isolate"] => {
+                let over = std::mem::take(&mut self.over);
+                return self.judge(answer, over);
+            }
             _ => {}
         }
         Ok(())
     }
 
-    fn judge(&mut self, isolated: &str) -> Result<(), &'static str> {
+    fn judge(&mut self, isolated: &str, over: bool) -> Result<(), &'static str> {
         if self.queue != self.other {
             return Err("another cut gives another queue");
         }
@@ -73,6 +90,8 @@ impl Seen {
             return Err("the close is refused");
         }
         self.passed += 1;
+        self.exact += usize::from(!over);
+        self.long += usize::from(!over && self.queue.len() >= LONG);
         Ok(())
     }
 }

@@ -1,5 +1,5 @@
 //! What the scripts of calls draw from: characters that matter to the scanner and the writer, values that are no
-//! characters, pages, and numbers of places.
+//! characters, long texts, pages, and numbers of places.
 
 use super::pages;
 use crate::page::{numbers, real_numbers};
@@ -35,6 +35,26 @@ pub fn run(random: &mut Random, most: usize) -> Vec<u32> {
     values
 }
 
+/// A long text of 8 to `most` characters, lengths of each number of binary digits as often: each character drawn, or a few over
+/// and over.
+pub fn long(random: &mut Random, most: usize, draw: impl Fn(&mut Random) -> u32) -> Vec<u32> {
+    let length = long_length(random, most);
+    let drawn = if random.once_in(2) { length } else { 1 + random.below(4) };
+    let values: Vec<u32> = (0..drawn).map(|_| draw(random)).collect();
+    values.into_iter().cycle().take(length).collect()
+}
+
+/// The length of a long text.
+pub fn long_length(random: &mut Random, most: usize) -> usize {
+    loop {
+        let least = 1 << random.between(3, most.ilog2());
+        let length = least + random.below(least);
+        if length <= most {
+            return length;
+        }
+    }
+}
+
 /// A page: that of the start, one that is right, seldom one that is wrong or the real one.
 pub fn page(random: &mut Random) -> Vec<u32> {
     match random.below(16) {
@@ -64,4 +84,13 @@ pub fn room(random: &mut Random, needed: usize) -> u32 {
         _ => needed + random.below(40),
     };
     room as u32
+}
+
+/// A number of places for a long text: mostly what is needed, or one under it.
+pub fn close_room(random: &mut Random, needed: usize) -> u32 {
+    match random.below(8) {
+        0..=3 => needed as u32,
+        4..=6 => needed.saturating_sub(1) as u32,
+        _ => room(random, needed),
+    }
 }

@@ -1,6 +1,7 @@
 //! Demand 3 from end to end: a text in chunks, with refused calls between them, finished as end of file; then its queue
-//! written whole to a plain writer, which is closed, and isolated as one run. Each text is cut in two ways. The oracle
-//! runs along, so that the queue is known; the program `promise` holds the answers to the promise.
+//! written whole to a plain writer, which is closed, and isolated as one run. Each text is cut in two ways. In most passages every
+//! call that is to succeed is lent exactly what it needs. The oracle runs along, so that the queue is known; the program
+//! `promise` holds the answers to the promise.
 
 use super::{alphabet, operation, page_line};
 use crate::leaves::is_excepted;
@@ -10,27 +11,41 @@ use crate::replay::Oracle;
 use crate::text_input::scanner::needed;
 use crate::words::listed;
 
+/// The longest text, and the longest queue: the places that its write needs are under the protocol's limit.
+const LONGEST: usize = 5_000;
+const LONGEST_QUEUE: usize = 5_400;
+
 pub fn script(random: &mut Random, count: usize) -> Vec<String> {
     let mut oracle = Oracle::new(false);
     let mut lines = Vec::new();
     while lines.len() < count {
-        lines.extend(passage(random, &mut oracle));
+        lines.extend(passage(random, &mut oracle).unwrap_or_default());
     }
     lines
 }
 
-/// A text from the scanner to the writer.
-fn passage(random: &mut Random, oracle: &mut Oracle) -> Vec<String> {
+/// A text from the scanner to the writer; none if its queue is too long for one write.
+fn passage(random: &mut Random, oracle: &mut Oracle) -> Option<Vec<String>> {
     let page = right_page(random);
     let (text, options) = (text(random), random.between(0, 3));
+    let most_over = if random.once_in(3) { 40 } else { 0 };
     let mut lines = vec![page_line(&page)];
-    lines.extend(scanned(random, &page, options, &text));
+    lines.extend(scanned(random, &page, options, &text, most_over));
     let queue: Vec<u32> =
         lines.iter().filter_map(|line| oracle.answer(line)).flat_map(|answer| listed(&answer)).collect();
-    lines.extend(scanned(random, &page, options, &text));
-    lines.extend(["W new plain".to_owned(), of_queue("W chars", &queue), "W close".to_owned()]);
-    lines.push(of_queue("L isolate", &queue));
-    lines
+    if queue.len() > LONGEST_QUEUE {
+        return None;
+    }
+    lines.extend(scanned(random, &page, options, &text, most_over));
+    let (n, over) = (queue.len(), over(random, most_over));
+    lines.extend(["W new plain".to_owned(), of_queue("W chars", 3 * n + over, &queue), "W close".to_owned()]);
+    lines.push(of_queue("L isolate", if n == 0 { 0 } else { 2 * n + 1 } + over, &queue));
+    Some(lines)
+}
+
+/// Up to so many places more than are needed.
+fn over(random: &mut Random, most: usize) -> usize {
+    random.below(most + 1)
 }
 
 fn right_page(random: &mut Random) -> Vec<u32> {
@@ -42,9 +57,13 @@ fn right_page(random: &mut Random) -> Vec<u32> {
     }
 }
 
-/// Mostly without the characters whose queue the writer refuses.
+/// Mostly short, and mostly without the characters whose queue the writer refuses.
 fn text(random: &mut Random) -> Vec<u32> {
-    let mut text: Vec<u32> = (0..random.below(40)).map(|_| alphabet::character(random)).collect();
+    let mut text = if random.once_in(5) {
+        alphabet::long(random, LONGEST, alphabet::character)
+    } else {
+        (0..random.below(40)).map(|_| alphabet::character(random)).collect()
+    };
     if !random.once_in(8) {
         text.retain(|c| !is_excepted(*c));
     }
@@ -52,23 +71,32 @@ fn text(random: &mut Random) -> Vec<u32> {
 }
 
 /// The calls on a scanner. The first chunk is not empty if the text is not: an empty one spends the chance to drop FEFF.
-fn scanned(random: &mut Random, page: &[u32], options: u32, text: &[u32]) -> Vec<String> {
+fn scanned(random: &mut Random, page: &[u32], options: u32, text: &[u32], most_over: usize) -> Vec<String> {
     let mut lines = vec!["S new".to_owned()];
     let mut rest = text;
     while !rest.is_empty() {
         let least = usize::from(rest.len() == text.len());
-        let (chunk, after) = rest.split_at(random.below(rest.len().min(9) + 1).max(least));
+        let (chunk, after) = rest.split_at(cut(random, rest.len()).max(least));
         if random.once_in(3) {
             lines.extend(refused(random, page, options, chunk));
         }
-        lines.push(scan(options, needed(chunk) + random.below(3), chunk));
+        lines.push(scan(options, needed(chunk) + over(random, most_over), chunk));
         rest = after;
     }
     if random.once_in(3) {
         lines.push("S fin e 1".to_owned());
     }
-    lines.push("S fin e 2".to_owned());
+    lines.push(format!("S fin e {:x}", 2 + over(random, most_over)));
     lines
+}
+
+/// Where the next chunk of so many characters ends: after few of them, but that a long rest is cut at any length or left whole.
+fn cut(random: &mut Random, rest: usize) -> usize {
+    match random.below(8) {
+        0..=3 if rest > 40 => rest.min(alphabet::long_length(random, LONGEST)),
+        4 if rest > 40 => rest,
+        _ => random.below(rest.min(9) + 1),
+    }
 }
 
 /// A call that is refused by 8, 1 or 2.
@@ -85,8 +113,6 @@ fn scan(options: u32, room: usize, chunk: &[u32]) -> String {
     operation("S scan", [options, room as u32].into_iter().chain(chunk.iter().copied()))
 }
 
-/// Lends three places for each character, and one.
-fn of_queue(words: &str, queue: &[u32]) -> String {
-    let room = 3 * queue.len() as u32 + 1;
-    operation(words, std::iter::once(room).chain(queue.iter().copied()))
+fn of_queue(words: &str, room: usize, queue: &[u32]) -> String {
+    operation(words, std::iter::once(room as u32).chain(queue.iter().copied()))
 }

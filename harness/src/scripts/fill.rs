@@ -1,7 +1,12 @@
-//! Filling: buffers around 136 bytes with continuation bytes in them, queues that just fit and that do not.
+//! Filling: buffers around 136 bytes, and of up to thousands, with continuation bytes in them, queues that just fit and that do
+//! not.
 
 use super::{alphabet, operation, utf8};
 use crate::random::Random;
+
+/// The longest buffer, and the longest queue, which are the protocol's limits or just under them.
+const MOST_BYTES: usize = 16_384;
+const MOST_QUEUE: usize = 8_990;
 
 /// Beforehand: continuation bytes, leads and others, in an order that stops the zeroing early or late.
 const PATTERNS: [&str; 9] = ["00", "80", "bf", "ff", "61", "8061", "80bfc0", "8080808080808061", "c3a9"];
@@ -14,6 +19,7 @@ fn call(random: &mut Random) -> String {
     let length = match random.below(8) {
         0 => random.pick(&[0, 1, 4, 134, 135, 135]),
         1 | 2 => 136,
+        3 if random.once_in(4) => alphabet::long_length(random, MOST_BYTES) as u32,
         3 => random.pick(&[137, 139, 140, 141, 300]),
         _ => random.between(136, 150),
     };
@@ -40,6 +46,7 @@ fn queue(random: &mut Random, room: usize) -> Vec<u32> {
         4 => room / 2,
         _ => 10,
     };
+    let most = most.min(MOST_QUEUE);
     let length = if random.once_in(3) { random.below(most) } else { most - random.below(most.min(8)) };
     let mut values: Vec<u32> = (0..length)
         .map(|_| match kind {

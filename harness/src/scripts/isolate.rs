@@ -1,13 +1,14 @@
-//! Isolation of runs, with pages that are right and now and then a wrong one: characters at the edges of the page's
-//! assigned ranges beside 34F, private use and one another, values that are no characters, too few places, just enough
-//! and more.
+//! Isolation of runs, of up to thousands of characters, with pages that are right and now and then a wrong one: characters at
+//! the edges of the page's assigned ranges beside 34F, private use and one another, values that are no characters, too few
+//! places, just enough and more.
 
 use super::{alphabet, operation, page_line, pages};
 use crate::page::{numbers, Range, LAST_CHARACTER};
 use crate::random::Random;
 
-/// The longest run.
-const LONGEST: usize = 40;
+/// The longest run but for those of thousands, and the longest of these: the places that it needs are under the protocol's limit.
+const LONG: usize = 40;
+const LONGEST: usize = 8_000;
 
 /// Unassigned with most pages, 34F, assigned, private use and its edges.
 const CHARACTERS: [u32; 17] = [
@@ -23,6 +24,7 @@ pub fn script(random: &mut Random, count: usize) -> Vec<String> {
             0 => right_page(random, &mut edges),
             // Others, a wrong one and the real one among them.
             1 if random.once_in(4) => page_line(&alphabet::page(random)),
+            2 => long_isolation(random, &edges),
             _ => isolation(random, &edges),
         });
     }
@@ -44,14 +46,37 @@ fn edges_of(ranges: &[Range]) -> Vec<u32> {
 
 fn isolation(random: &mut Random, edges: &[u32]) -> String {
     let run = run(random, edges);
-    let needed = if run.is_empty() { 0 } else { 2 * run.len() + 1 };
-    let room = alphabet::room(random, needed);
+    let room = alphabet::room(random, needed(&run));
+    operation("L isolate", std::iter::once(room).chain(run))
+}
+
+/// "Isolating a run of n characters needs 2 × n + 1 places, an empty one none".
+fn needed(run: &[u32]) -> usize {
+    if run.is_empty() {
+        0
+    } else {
+        2 * run.len() + 1
+    }
+}
+
+/// A long run. Now and then it fills all the places that it needs, with most pages; seldom one value is no character.
+fn long_isolation(random: &mut Random, edges: &[u32]) -> String {
+    let mut run = if random.once_in(4) {
+        vec![0x378; alphabet::long_length(random, LONGEST)]
+    } else {
+        alphabet::long(random, LONGEST, |random| character(random, edges))
+    };
+    if random.once_in(20) {
+        let at = random.below(run.len());
+        run[at] = random.pick(&alphabet::NO_CHARACTERS);
+    }
+    let room = alphabet::close_room(random, needed(&run));
     operation("L isolate", std::iter::once(room).chain(run))
 }
 
 /// A run: most are short, some are as long as may be.
 fn run(random: &mut Random, edges: &[u32]) -> Vec<u32> {
-    let most = random.pick(&[4, 8, 8, 12, LONGEST]);
+    let most = random.pick(&[4, 8, 8, 12, LONG]);
     if random.once_in(6) {
         return alphabet::run(random, most + 1);
     }

@@ -7,6 +7,7 @@ pub mod every;
 pub mod fill;
 pub mod isolate;
 pub mod leaves;
+pub mod lent;
 pub mod pages;
 pub mod sample;
 pub mod scan;
@@ -18,15 +19,16 @@ pub mod write_cases;
 use crate::page::real_numbers;
 use crate::random::Random;
 
-/// The kinds of script, each with what its answers must have, or nothing of that kind was compared: the operations (`P wrong`
-/// is a page that is not accepted) and the refusals.
+/// The kinds of script, each with what its answers must have, or nothing of that kind was compared: the operations and the
+/// refusals. `P wrong` is a page that is not accepted. `long` after an operation: on `LONG` characters at least it succeeds with
+/// exactly the places that it needs. `long short`: with one place less it is refused by 8.
 pub const KINDS: [(&str, &str, &[u32]); 14] = [
     ("pages", "P, P wrong", &[]),
     ("utf8", "L utf8", &[]),
     ("every", "P, L check, L end, L replace, L start", &[1, 4]),
     ("leaves", "P, P wrong, L check, L end, L replace, L start", &[1, 2, 4]),
-    ("isolate", "P, P wrong, L isolate", &[1, 2, 8]),
-    ("scan", "P, P wrong, S count, S fin, S new, S scan", &[1, 2, 8, 10]),
+    ("isolate", "P, P wrong, L isolate, L isolate long, L isolate long short", &[1, 2, 8]),
+    ("scan", "P, P wrong, S count, S fin, S new, S scan, S scan long, S scan long short", &[1, 2, 8, 10]),
     ("fill", "F", &[1, 7]),
     (
         "cases",
@@ -35,7 +37,8 @@ pub const KINDS: [(&str, &str, &[u32]); 14] = [
     ),
     (
         "write",
-        "P, P wrong, W abandon, W bytes, W chars, W close, W flush, W held, W new, W places",
+        "P, P wrong, W abandon, W bytes, W bytes long, W bytes long short, W chars, W chars long, W chars long short, W close, \
+         W flush, W held, W new, W places",
         &[1, 2, 3, 4, 5, 6, 8, 9, 11, 12, 13],
     ),
     (
@@ -43,7 +46,12 @@ pub const KINDS: [(&str, &str, &[u32]); 14] = [
         "P, P wrong, W abandon, W bytes, W chars, W close, W flush, W held, W new, W places",
         &[1, 2, 3, 4, 5, 6, 8, 9, 11, 12, 13],
     ),
-    ("demand", "P, P wrong, S fin, S new, S scan, W chars, W close, W new, L isolate", &[1, 2, 4, 8]),
+    (
+        "demand",
+        "P, P wrong, S fin, S new, S scan, S scan long, W chars, W chars long, W close, W new, L isolate, \
+         L isolate long",
+        &[1, 2, 4, 8],
+    ),
     (
         "stretches",
         "P, P wrong, L isolate, L utf8, S new, S scan, W abandon, W bytes, W chars, W close, W flush, W new",
@@ -56,6 +64,9 @@ pub const KINDS: [(&str, &str, &[u32]); 14] = [
     ),
     ("sample", "P, P wrong, L utf8", &[]),
 ];
+
+/// A call on so many characters is a long one.
+pub const LONG: usize = 1_000;
 
 /// The lines of a script.
 pub type Lines = Box<dyn Iterator<Item = String>>;

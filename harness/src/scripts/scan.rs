@@ -1,10 +1,13 @@
-//! Lists of calls on a scanner: chunks of every cut, options that change, finishes, refusals between them, and counts at
-//! the limit.
+//! Lists of calls on a scanner: chunks of every cut and of up to thousands of characters, options that change, finishes, refusals
+//! between them, and counts at the limit.
 
 use super::{alphabet, operation, page_line, pages};
 use crate::page::Page;
 use crate::random::Random;
 use crate::text_input::scanner::needed;
+
+/// The longest chunk: the places that it needs are under the protocol's limit.
+const LONGEST: usize = 5_400;
 
 pub fn script(random: &mut Random, count: usize) -> Vec<String> {
     let mut lines = vec!["S new".to_owned()];
@@ -22,6 +25,8 @@ fn calls(random: &mut Random) -> Vec<String> {
         6 => at_limit(random),
         7 => vec![format!("S count {:x}", random.below(8))],
         8..=14 => vec![finish(random)],
+        15 => long_scan(random),
+        16 => fullest(random),
         _ => {
             let chunk = chunk(random);
             vec![scan(random, &chunk)]
@@ -51,9 +56,31 @@ fn pages_between(random: &mut Random) -> Vec<String> {
 
 /// A count that a chunk takes to its limit or one past it.
 fn at_limit(random: &mut Random) -> Vec<String> {
-    let chunk = [vec![0x61], chunk(random)].concat();
+    let rest = if random.once_in(4) { long_chunk(random) } else { chunk(random) };
+    let chunk = [vec![0x61], rest].concat();
     let count = u32::MAX - chunk.len() as u32 + random.between(0, 1);
     vec![format!("S count {count:x}"), scan(random, &chunk), format!("S count {:x}", random.below(8))]
+}
+
+/// A long chunk, seldom with a value that is no character.
+fn long_scan(random: &mut Random) -> Vec<String> {
+    let mut chunk = long_chunk(random);
+    if random.once_in(20) {
+        let at = random.below(chunk.len());
+        chunk[at] = random.pick(&alphabet::NO_CHARACTERS);
+    }
+    vec![scan_with(random, &chunk, alphabet::close_room)]
+}
+
+/// A long chunk that fills all the places that it needs: after 0D, three characters for each.
+fn fullest(random: &mut Random) -> Vec<String> {
+    let chunk = vec![0xFB03; alphabet::long_length(random, LONGEST)];
+    vec!["S scan 0 4 d".to_owned(), scan_with(random, &chunk, alphabet::close_room)]
+}
+
+fn long_chunk(random: &mut Random) -> Vec<u32> {
+    let own = random.once_in(3);
+    alphabet::long(random, LONGEST - 1, |random| if own { random.pick(&OWN) } else { alphabet::character(random) })
 }
 
 fn finish(random: &mut Random) -> String {
@@ -62,8 +89,13 @@ fn finish(random: &mut Random) -> String {
 }
 
 fn scan(random: &mut Random, chunk: &[u32]) -> String {
+    scan_with(random, chunk, alphabet::room)
+}
+
+/// A scan that lends places around what is needed.
+fn scan_with(random: &mut Random, chunk: &[u32], room: fn(&mut Random, usize) -> u32) -> String {
     let options = random.between(0, 3);
-    let room = alphabet::room(random, needed(chunk));
+    let room = room(random, needed(chunk));
     operation("S scan", [options, room].into_iter().chain(chunk.iter().copied()))
 }
 

@@ -1,12 +1,19 @@
-//! Lists of calls on a writer in each mode: characters and bytes, escapes up to their limit, refusals and what stays
-//! kept after them, false claims of held characters. The oracle runs along, so that rooms stand at what is needed.
+//! Lists of calls on a writer in each mode: characters and bytes, up to thousands of them, escapes up to their limit, refusals and
+//! what stays kept after them, false claims of held characters. The oracle runs along, so that rooms stand at what is needed.
 
 use super::{alphabet, operation, page_line, utf8};
 use crate::leaves::valid_prefix;
 use crate::random::Random;
 use crate::replay::Oracle;
 
-/// Characters that a writer takes, and one that it refuses.
+/// A long write lends at most so many places, those of the kept and held characters among them: what it then keeps leaves room for
+/// short writes under the protocol's limit.
+const MOST_PLACES: usize = 15_000;
+
+/// A long write has at most so many bytes, which is under the protocol's limit of 9,000 numbers.
+const MOST_BYTES: usize = 8_990;
+
+/// Characters that a writer takes, and, last, one that it refuses.
 const GOOD: [u32; 17] =
     [0x61, 0x61, 0x0A, 0x0A, 0x20, 0xE9, 0x301, 0x200D, 0x600, 0x378, 0x34F, 0x09, 0x6D, 0x903, 0xE000, 0x1F3FB, 0x7F];
 
@@ -16,13 +23,13 @@ const REFUSED: [u32; 14] =
 
 /// What the script knows of the writer.
 #[derive(Default)]
-pub(super) struct Known {
+pub struct Known {
     /// Its mode is color.
     color: bool,
     /// It claims what it cannot have.
     claims: bool,
     /// The kept and the held characters.
-    pub(super) needed: usize,
+    pub needed: usize,
 }
 
 pub fn script(random: &mut Random, count: usize) -> Vec<String> {
@@ -39,7 +46,7 @@ pub fn script(random: &mut Random, count: usize) -> Vec<String> {
 }
 
 impl Known {
-    pub(super) fn learn(&mut self, line: &str, answer: &str) {
+    pub fn learn(&mut self, line: &str, answer: &str) {
         if line.starts_with("W new") {
             self.color = line.ends_with("color");
         }
@@ -76,6 +83,8 @@ fn call(random: &mut Random, known: &Known) -> String {
         15 => format!("W places {:x}", random.below(12)),
         16 => claim(random),
         17..=25 => bytes(random, known),
+        26 => long_bytes(random, known),
+        27 => long_characters(random, known),
         _ => characters(random, known),
     }
 }
@@ -100,6 +109,32 @@ fn characters(random: &mut Random, known: &Known) -> String {
     }
     let room = alphabet::room(random, known.needed + 3 * text.len());
     operation("W chars", std::iter::once(room).chain(text))
+}
+
+fn long_characters(random: &mut Random, known: &Known) -> String {
+    let mut text = long_text(random, known);
+    if random.once_in(20) {
+        let at = random.below(text.len());
+        text[at] = random.pick(&alphabet::NO_CHARACTERS);
+    }
+    let room = alphabet::close_room(random, known.needed + 3 * text.len());
+    operation("W chars", std::iter::once(room).chain(text))
+}
+
+/// A long text that is mostly taken: it begins with a start, now and then has one character that is refused, and where the mode
+/// is color an escape.
+fn long_text(random: &mut Random, known: &Known) -> Vec<u32> {
+    let most = (MOST_PLACES.saturating_sub(known.needed) / 3).max(100);
+    let mut text = alphabet::long(random, most, |random| random.pick(&GOOD[..GOOD.len() - 1]));
+    text[0] = random.pick(&[0x61, 0x61, 0x0A, 0x378]);
+    let at = random.below(text.len());
+    if random.once_in(5) {
+        text[at] = random.pick(&REFUSED);
+    } else if known.color && random.once_in(2) {
+        text.splice(at..at, escape(random));
+        text.truncate(most);
+    }
+    text
 }
 
 fn text(random: &mut Random, color: bool) -> Vec<u32> {
@@ -137,15 +172,43 @@ fn escape(random: &mut Random) -> Vec<u32> {
 
 fn bytes(random: &mut Random, known: &Known) -> String {
     let bytes = byte_string(random, known.color);
-    let count = valid_prefix(&bytes).chars().count();
-    let room = alphabet::room(random, known.needed + 3 * count);
+    let room = alphabet::room(random, needed_for(known, &bytes));
+    byte_write(room, bytes)
+}
+
+fn long_bytes(random: &mut Random, known: &Known) -> String {
+    let mut bytes = in_utf8(long_text(random, known));
+    bytes.truncate(MOST_BYTES);
+    match random.below(6) {
+        0 => bytes.truncate(random.below(bytes.len() + 1)),
+        1 => bytes.push(0xFF),
+        2 => {
+            let at = random.below(bytes.len());
+            bytes[at] = 0xFF;
+        }
+        _ => {}
+    }
+    let room = alphabet::close_room(random, needed_for(known, &bytes));
+    byte_write(room, bytes)
+}
+
+/// The places that a write of bytes needs.
+fn needed_for(known: &Known, bytes: &[u8]) -> usize {
+    known.needed + 3 * valid_prefix(bytes).chars().count()
+}
+
+fn byte_write(room: u32, bytes: Vec<u8>) -> String {
     operation("W bytes", std::iter::once(room).chain(bytes.into_iter().map(u32::from)))
+}
+
+/// The characters among the values, in UTF-8.
+fn in_utf8(values: Vec<u32>) -> Vec<u8> {
+    values.into_iter().filter_map(char::from_u32).collect::<String>().into_bytes()
 }
 
 /// A text in UTF-8, whole, cut off or with an invalid end; or bytes of the kind `utf8`. A color writer gets more escapes.
 pub fn byte_string(random: &mut Random, color: bool) -> Vec<u8> {
-    let text: String = text(random, color).into_iter().filter_map(char::from_u32).collect();
-    let mut bytes = text.into_bytes();
+    let mut bytes = in_utf8(text(random, color));
     match random.below(6) {
         0 => bytes.extend(utf8::random_bytes(random)),
         1 => bytes.truncate(random.below(bytes.len() + 1)),
