@@ -27,41 +27,44 @@ abbrev within : ℕ → ℕ → ℕ → Bool
 within a b c = leb a c && leb c b
 
 -- ---- two tables as one
--- by the test, r in front of the others, or q and then what r is put into
-abbrev before : Bool → ℕ × ℕ → ℕ × ℕ → List (ℕ × ℕ) → List (ℕ × ℕ) → List (ℕ × ℕ)
-before true r q t rest = r ∷ q ∷ t
-before false r q t rest = q ∷ rest
+-- the first list where the test holds, else the second
+abbrev pick : Bool → List (ℕ × ℕ) → List (ℕ × ℕ) → List (ℕ × ℕ)
+pick true s t = s
+pick false s t = t
 
-abbrev put : ℕ × ℕ → List (ℕ × ℕ) → List (ℕ × ℕ)
-put r [] = r ∷ []
-put r (q ∷ t) = before (leb (r .0) (q .0)) r q t (put r t)
+-- r, with what `rest` makes of the ranges that begin after it, behind those of the table that begin before it
+abbrev along : ℕ × ℕ → (List (ℕ × ℕ) → List (ℕ × ℕ)) → List (ℕ × ℕ) → List (ℕ × ℕ)
+along r rest [] = r ∷ rest []
+along r rest (q ∷ t) = pick (leb (r .0) (q .0)) (r ∷ rest (q ∷ t)) (q ∷ along r rest t)
 
 abbrev pub union : List (ℕ × ℕ) → List (ℕ × ℕ) → List (ℕ × ℕ)
 union [] t = t
-union (r ∷ s) t = put r (union s t)
+union (r ∷ s) t = along r (union s) t
 
 swap : (x y z : Bool) → x || (y || z) ≡ y || (x || z)
 swap true y z = sym (or-true y)
 swap false y z = refl
 
-lists-before : (b : Bool) (r q : ℕ × ℕ) (t rest : List (ℕ × ℕ)) (c : ℕ) → lists rest c ≡ within (r .0) (r .1) c || lists t c
-    → lists (before b r q t rest) c ≡ within (r .0) (r .1) c || (within (q .0) (q .1) c || lists t c)
-unfolding member
-lists-before true r q t rest c h = refl
-lists-before false r q t rest c h = rw h (swap (within (q .0) (q .1) c) (within (r .0) (r .1) c) (lists t c))
+lists-pick : (b : Bool) (s t : List (ℕ × ℕ)) (c : ℕ) (v : Bool) → lists s c ≡ v → lists t c ≡ v → lists (pick b s t) c ≡ v
+lists-pick true s t c v p q = p
+lists-pick false s t c v p q = q
 
-lists-put : (r : ℕ × ℕ) (t : List (ℕ × ℕ)) (c : ℕ) → lists (put r t) c ≡ within (r .0) (r .1) c || lists t c
-unfolding member
-lists-put r [] c = refl
-lists-put r (q ∷ t) c = lists-before (leb (r .0) (q .0)) r q t (put r t) c (lists-put r t c)
+module _ (r : ℕ × ℕ) (s : List (ℕ × ℕ)) (rest : List (ℕ × ℕ) → List (ℕ × ℕ)) (c : ℕ)
+    (h : (t : List (ℕ × ℕ)) → lists (rest t) c ≡ lists s c || lists t c) where
+  lists-along : (t : List (ℕ × ℕ)) → lists (along r rest t) c ≡ (within (r .0) (r .1) c || lists s c) || lists t c
+  unfolding member
+  lists-along [] =
+      ap (λ (b : Bool). within (r .0) (r .1) c || b) (h []) ∙ sym (or-assoc (within (r .0) (r .1) c) (lists s c) false)
+  lists-along (q ∷ t) =
+      lists-pick (leb (r .0) (q .0)) (r ∷ rest (q ∷ t)) (q ∷ along r rest t) c _
+      (ap (λ (b : Bool). within (r .0) (r .1) c || b) (h (q ∷ t)) ∙ sym (or-assoc (within (r .0) (r .1) c) (lists s c) (lists (q ∷ t) c)))
+      (ap (λ (b : Bool). within (q .0) (q .1) c || b) (lists-along t)
+      ∙ swap (within (q .0) (q .1) c) (within (r .0) (r .1) c || lists s c) (lists t c))
 
 pub lists-union : (s t : List (ℕ × ℕ)) (c : ℕ) → lists (union s t) c ≡ lists s c || lists t c
 unfolding member
 lists-union [] t c = refl
-lists-union (r ∷ s) t c =
-    lists-put r (union s t) c
-    ∙ ap (λ (b : Bool). within (r .0) (r .1) c || b) (lists-union s t c)
-    ∙ sym (or-assoc (within (r .0) (r .1) c) (lists s c) (lists t c))
+lists-union (r ∷ s) t c = lists-along r s (union s) c (λ u. lists-union s u c) t
 
 -- ---- one table without another
 abbrev pub without : List (ℕ × ℕ) → List (ℕ × ℕ) → List (ℕ × ℕ)

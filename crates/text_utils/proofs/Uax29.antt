@@ -69,10 +69,14 @@ module _ (ge em sm ex be bz bs : List (ℕ × ℕ)) (same : joined (no-starts ge
       theirs : lists (no-starts-29 be bz bs) c ≡ (has be c || (has bz c || has bs c)) && not (eqb c 0x34f || false)
       theirs = simp (lists-union, lists-without, lists-one, has-lists, or-false)
 
+-- the test that antt computes: both come to the same ranges
+same-starts : joined (no-starts graphemeExtend emojiModifier spacingMark spacingMarkExceptions) ≡ joined (no-starts-29 breakExtend breakZwj breakSpacingMark)
+same-starts = refl
+
 pub start-by-uax29 : (p : List ℕ) (c : ℕ) → basicTextStart p c ≡ startByUax29 p c
 unfolding basicTextStart starter graphemeExtendNotCgj spacingMarkPlus startByUax29
 start-by-uax29 p c =
-    starts graphemeExtend emojiModifier spacingMark spacingMarkExceptions breakExtend breakZwj breakSpacingMark refl (starter p c) c
+    starts graphemeExtend emojiModifier spacingMark spacingMarkExceptions breakExtend breakZwj breakSpacingMark same-starts (starter p c) c
 
 -- ---- ends
 -- the tables by which a character is no end: pr is Consonant_Preceding_Repha, px Consonant_Prefixed, pc Prepended_Concatenation_Mark
@@ -101,9 +105,12 @@ module _ (pr px pc bp bz : List (ℕ × ℕ)) (same : joined (no-ends pr px pc) 
       theirs : lists (no-ends-29 bp bz) c ≡ (has bp c || has bz c) && not (eqb c 0x890 || (eqb c 0x891 || false))
       theirs = simp (lists-union, lists-without, lists-two, has-lists, or-false)
 
+same-ends : joined (no-ends consonantPrecedingRepha consonantPrefixed prependedConcatenationMark) ≡ joined (no-ends-29 breakPrepend breakZwj)
+same-ends = refl
+
 pub end-by-uax29 : (c : ℕ) → basicTextEnd c ≡ endByUax29 c
 unfolding basicTextEnd endByUax29
-end-by-uax29 c = ends consonantPrecedingRepha consonantPrefixed prependedConcatenationMark breakPrepend breakZwj refl c
+end-by-uax29 c = ends consonantPrecedingRepha consonantPrefixed prependedConcatenationMark breakPrepend breakZwj same-ends c
 
 -- ---- the entries
 -- "Start and end as `is_basic_text_start`, `is_basic_text_end`."
