@@ -118,12 +118,8 @@ pub const PROPERTIES: [Property; 8] = [
 ];
 
 /// The values of Grapheme_Cluster_Break that `specs/Breaks.antt` has, and the names of their definitions.
-pub const BREAKS: [(&str, &str); 4] = [
-    ("Extend", "breakExtend"),
-    ("ZWJ", "breakZwj"),
-    ("SpacingMark", "breakSpacingMark"),
-    ("Prepend", "breakPrepend"),
-];
+pub const BREAKS: [(&str, &str); 4] =
+    [("Extend", "breakExtend"), ("ZWJ", "breakZwj"), ("SpacingMark", "breakSpacingMark"), ("Prepend", "breakPrepend")];
 
 /// A set of characters.
 pub type Set = BTreeSet<u32>;
