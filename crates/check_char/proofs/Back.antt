@@ -3,13 +3,16 @@
 --     errorOf, error-back       a reason, by its place in the Rust's `BasicTextError`
 --     checkedOf, checked-back   what the check says
 --     answerOf, check-back      the entry's answer
+--     named                     the reasons by name, at one character each, as the Rust's `check_basic_text_char` has them
 --     reason-back               a reason as plain numbers: the first of them, so many as it says, are the reason's
 use Prim.Native.Nat.{ℕ}
 use mathlib.Core.Bool.{false, cond}
-use mathlib.Core.List.{List, [], _∷_}
+use mathlib.Core.List.{List, [], _∷_, map}
 use mathlib.Core.Path.{_≡_, refl, ap}
 use lib.Dec.{eqb}
 use lib.ListN.{getD, take}
+use Rattle.unicode.specs.Chars.{isChar}
+use Rattle.replace.specs.Replace.{replaceOf}
 use Rattle.check_char.specs.declared.BasicTextError.{BasicTextError}
 use Rattle.check_char.specs.declared.BasicTextError.the-variants.{ColorEscapeSequence, ControlCode, DeprecatedFormatChar, Escape, BidiFormatChar, Interlinear, LanguageTag, LineSeparation, NonChar, ParaSeparation, UnneededBOM, OutOfBand, Omit, Beyyal, UnrecognizedEscape, Replacement}
 use Rattle.check_char.specs.declared.Checked.{Checked}
@@ -17,7 +20,7 @@ use Rattle.check_char.specs.declared.Checked.the-variants.{Ok, Err}
 use Rattle.check_char.specs.declared.Answer.{Answer}
 use Rattle.check_char.specs.declared.Answer.the-variants.{Accepted, NotAChar, Refused}
 use Rattle.check_char.specs.declared.numbers.Reason.{Reason}
-use Rattle.check_char.specs.Check.{errorNumbers, reasonNumbers, checkAnswerNumbers}
+use Rattle.check_char.specs.Check.{reasonOf, errorNumbers, reasonNumbers, checkNumbers, checkAnswerNumbers, checkAnswer}
 use Rattle.check_char.specs.Numbers.{reasonBy}
 
 -- the reason of these numbers
@@ -82,6 +85,32 @@ pub check-back : (a : Answer) → answerOf (checkAnswerNumbers a) ≡ a
 check-back Accepted = refl
 check-back NotAChar = refl
 check-back (Refused e) = ap Refused (error-back e)
+
+-- a character and the reason for which it is refused
+abbrev Named : Type 0
+Named = ℕ × BasicTextError
+
+abbrev names : List Named
+names =
+    (0x7f, ControlCode 0x7f) ∷
+    (0x206a, DeprecatedFormatChar 0x206a) ∷
+    (0x202a, BidiFormatChar) ∷
+    (0xfff9, Interlinear) ∷
+    (0xe0001, LanguageTag) ∷
+    (0x2028, LineSeparation) ∷
+    (0xfffe, NonChar) ∷
+    (0x2029, ParaSeparation) ∷
+    (0xfeff, UnneededBOM) ∷
+    (0xfffc, OutOfBand) ∷
+    (0x17b4, Omit 0x17b4) ∷
+    (0x17d8, Beyyal) ∷
+    (0x2126, Replacement (record { count = 1; first = 0x2126; second = 0; third = 0 }) 0x2126) ∷
+    []
+
+-- "4 a character refused by `check_basic_text_char` .. with the reason"
+pub named : map (λ (r : Named). checkAnswerNumbers (Refused (r .1))) names ≡ map (λ (r : Named). checkAnswer (r .0)) names
+unfolding isChar replaceOf reasonOf checkNumbers
+named = refl
 
 -- the fields in order
 abbrev listed : Reason → List ℕ
