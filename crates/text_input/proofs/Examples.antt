@@ -70,7 +70,8 @@ computed x = toldFrom fresh (x .acts)
 unfoldable pub finishTable : List Row
 finishTable =
     -- "A pending 0D gives 0A, a pending page run 20, an open escape nothing.": each state at an end of file; and at a push, and then an
-    -- end of file. The states are a fresh one, after text, after a newline; CR, FF; ESC, ESC `[`, further on in it, ESC `]`, ESC `[` `[`.
+    -- end of file. The states are a fresh one, after text, after a newline; CR, FF; ESC, ESC `[`, further on in it, ESC `]`,
+    -- ESC `[` `[`.
     row (scan neither [] ∷ finish true ∷ [])
     ((0 ∷ []) ∷ (0 ∷ []) ∷ [])
     ∷ row (scan neither [] ∷ finish false ∷ finish true ∷ [])
@@ -133,7 +134,8 @@ finishTable =
     ((0 ∷ []) ∷ (0 ∷ 0x0A ∷ []) ∷ (0 ∷ 0x0A ∷ []) ∷ (0 ∷ []) ∷ [])
     ∷ row (scan neither (0x0C ∷ []) ∷ finish false ∷ scan neither (0x0D ∷ []) ∷ finish true ∷ [])
     ((0 ∷ []) ∷ (0 ∷ 0x20 ∷ []) ∷ (0 ∷ []) ∷ (0 ∷ 0x0A ∷ []) ∷ [])
-    -- "no piece came since the last 0A so added, or there was no piece"
+    -- "As end of file, 0A follows unless the last piece is a line end, no piece came since the last 0A so added, or there was
+    -- no piece. A push adds no 0A."
     ∷ row (scan neither (0x61 ∷ []) ∷ finish true ∷ finish true ∷ scan neither (0x1B ∷ []) ∷ finish true ∷ [])
     ((0 ∷ 0x61 ∷ []) ∷ (0 ∷ 0x0A ∷ []) ∷ (0 ∷ []) ∷ (0 ∷ []) ∷ (0 ∷ 0x0A ∷ []) ∷ [])
     ∷ row (finish false ∷ scan neither (0x61 ∷ []) ∷ finish false ∷ finish false ∷ finish true ∷ [])
@@ -171,7 +173,7 @@ chunkTable =
     ((0 ∷ []) ∷ (0 ∷ 0x2060 ∷ 0x61 ∷ []) ∷ (0 ∷ 0x0A ∷ []) ∷ [])
     ∷ row (finish false ∷ scan neither (0xFEFF ∷ 0x61 ∷ []) ∷ finish true ∷ [])
     ((0 ∷ []) ∷ (0 ∷ 0x61 ∷ []) ∷ (0 ∷ 0x0A ∷ []) ∷ [])
-    -- "Line end: 0D 0A, 0D, 0A", in one chunk and in two
+    -- "Line end: 0D 0A, 0D, 0A", in one chunk and in two: "Image 0A."
     ∷ row (scan neither (0x61 ∷ 0x0D ∷ 0x0A ∷ 0x62 ∷ []) ∷ finish true ∷ [])
     ((0 ∷ 0x61 ∷ 0x0A ∷ 0x62 ∷ []) ∷ (0 ∷ 0x0A ∷ []) ∷ [])
     ∷ row (scan neither (0x61 ∷ 0x0D ∷ []) ∷ scan neither (0x0A ∷ 0x62 ∷ []) ∷ finish true ∷ [])
@@ -189,7 +191,16 @@ chunkTable =
     ((0 ∷ []) ∷ (0 ∷ []) ∷ (0 ∷ []) ∷ (0 ∷ 0x0A ∷ []) ∷ [])
     ∷ row (scan neither (0x0C ∷ 0x1B ∷ 0x63 ∷ 0x0D ∷ []) ∷ finish true ∷ [])
     ((0 ∷ 0x20 ∷ []) ∷ (0 ∷ 0x0A ∷ []) ∷ [])
-    -- the bounds of an escape
+    -- "`[` `[` and at most one character up to 7F"
+    ∷ row (scan neither (0x1B ∷ 0x5B ∷ 0x5B ∷ 0x61 ∷ 0x62 ∷ []) ∷ finish true ∷ [])
+    ((0 ∷ 0x62 ∷ []) ∷ (0 ∷ 0x0A ∷ []) ∷ [])
+    ∷ row (scan neither (0x1B ∷ 0x5B ∷ 0x5B ∷ 0x7F ∷ 0x61 ∷ []) ∷ finish true ∷ [])
+    ((0 ∷ 0x61 ∷ []) ∷ (0 ∷ 0x0A ∷ []) ∷ [])
+    ∷ row (scan neither (0x1B ∷ 0x5B ∷ 0x5B ∷ 0x80 ∷ 0x61 ∷ []) ∷ finish true ∷ [])
+    ((0 ∷ 0xFFFD ∷ 0x61 ∷ []) ∷ (0 ∷ 0x0A ∷ []) ∷ [])
+    ∷ row (scan neither (0x1B ∷ 0x5B ∷ 0x5B ∷ 0x5B ∷ 0x61 ∷ []) ∷ finish true ∷ [])
+    ((0 ∷ 0x61 ∷ []) ∷ (0 ∷ 0x0A ∷ []) ∷ [])
+    -- "`[` not followed by `[`, any number of 20..3F, then one of 40..7E or 18 if it stands there"
     ∷ row (scan neither (0x1B ∷ 0x5B ∷ 0x20 ∷ 0x31 ∷ 0x3F ∷ 0x40 ∷ 0x61 ∷ []) ∷ finish true ∷ [])
     ((0 ∷ 0x61 ∷ []) ∷ (0 ∷ 0x0A ∷ []) ∷ [])
     ∷ row (scan neither (0x1B ∷ 0x5B ∷ 0x31 ∷ 0x7E ∷ 0x61 ∷ []) ∷ finish true ∷ [])
@@ -200,28 +211,39 @@ chunkTable =
     ((0 ∷ 0xFFFD ∷ 0x61 ∷ []) ∷ (0 ∷ 0x0A ∷ []) ∷ [])
     ∷ row (scan neither (0x1B ∷ 0x5B ∷ 0x1F ∷ 0x61 ∷ []) ∷ finish true ∷ [])
     ((0 ∷ 0xFFFD ∷ 0x61 ∷ []) ∷ (0 ∷ 0x0A ∷ []) ∷ [])
+    ∷ row (scan neither (0x1B ∷ 0x5B ∷ 0x31 ∷ []) ∷ scan neither (0x3B ∷ []) ∷ scan neither (0x6D ∷ 0x61 ∷ []) ∷ finish true ∷ [])
+    ((0 ∷ []) ∷ (0 ∷ []) ∷ (0 ∷ 0x61 ∷ []) ∷ (0 ∷ 0x0A ∷ []) ∷ [])
+    ∷ row (scan neither (0x1B ∷ 0x5B ∷ 0x31 ∷ 0x5B ∷ 0x61 ∷ []) ∷ finish true ∷ [])
+    ((0 ∷ 0x61 ∷ []) ∷ (0 ∷ 0x0A ∷ []) ∷ [])
+    -- "`]` and all up to the first of 07, 18 and 1B, with it if it is 07 or 18, without it if it is 1B, or to the end if none
+    -- of the three comes"
     ∷ row (scan neither (0x1B ∷ 0x5D ∷ 0x61 ∷ 0x07 ∷ 0x62 ∷ []) ∷ finish true ∷ [])
     ((0 ∷ 0x62 ∷ []) ∷ (0 ∷ 0x0A ∷ []) ∷ [])
     ∷ row (scan neither (0x1B ∷ 0x5D ∷ 0x61 ∷ 0x18 ∷ 0x62 ∷ []) ∷ finish true ∷ [])
     ((0 ∷ 0x62 ∷ []) ∷ (0 ∷ 0x0A ∷ []) ∷ [])
     ∷ row (scan neither (0x1B ∷ 0x5D ∷ 0x61 ∷ 0x1B ∷ 0x63 ∷ 0x62 ∷ []) ∷ finish true ∷ [])
     ((0 ∷ 0x62 ∷ []) ∷ (0 ∷ 0x0A ∷ []) ∷ [])
-    ∷ row (scan neither (0x1B ∷ 0x5D ∷ 0x61 ∷ 0x9C ∷ 0x62 ∷ []) ∷ finish true ∷ [])
+    ∷ row (scan neither (0x1B ∷ 0x5D ∷ 0x61 ∷ 0x0A ∷ 0x9C ∷ 0x62 ∷ []) ∷ finish true ∷ [])
     ((0 ∷ []) ∷ (0 ∷ 0x0A ∷ []) ∷ [])
-    ∷ row (scan neither (0x1B ∷ 0x5B ∷ 0x5B ∷ 0x7F ∷ 0x61 ∷ []) ∷ finish true ∷ [])
-    ((0 ∷ 0x61 ∷ []) ∷ (0 ∷ 0x0A ∷ []) ∷ [])
-    ∷ row (scan neither (0x1B ∷ 0x5B ∷ 0x5B ∷ 0x80 ∷ 0x61 ∷ []) ∷ finish true ∷ [])
-    ((0 ∷ 0xFFFD ∷ 0x61 ∷ []) ∷ (0 ∷ 0x0A ∷ []) ∷ [])
-    ∷ row (scan neither (0x1B ∷ 0x18 ∷ 0x61 ∷ []) ∷ finish true ∷ [])
-    ((0 ∷ 0x61 ∷ []) ∷ (0 ∷ 0x0A ∷ []) ∷ [])
-    ∷ row (scan neither (0x1B ∷ 0x3F ∷ 0x61 ∷ []) ∷ finish true ∷ [])
-    ((0 ∷ 0x3F ∷ 0x61 ∷ []) ∷ (0 ∷ 0x0A ∷ []) ∷ [])
+    -- "one of 40..7E other than `[` and `]`, or 18"; "or, none of these fitting, nothing."
     ∷ row (scan neither (0x1B ∷ 0x40 ∷ 0x61 ∷ []) ∷ finish true ∷ [])
     ((0 ∷ 0x61 ∷ []) ∷ (0 ∷ 0x0A ∷ []) ∷ [])
     ∷ row (scan neither (0x1B ∷ 0x7E ∷ 0x61 ∷ []) ∷ finish true ∷ [])
     ((0 ∷ 0x61 ∷ []) ∷ (0 ∷ 0x0A ∷ []) ∷ [])
+    ∷ row (scan neither (0x1B ∷ 0x18 ∷ 0x61 ∷ []) ∷ finish true ∷ [])
+    ((0 ∷ 0x61 ∷ []) ∷ (0 ∷ 0x0A ∷ []) ∷ [])
+    ∷ row (scan neither (0x1B ∷ 0x3F ∷ 0x61 ∷ []) ∷ finish true ∷ [])
+    ((0 ∷ 0x3F ∷ 0x61 ∷ []) ∷ (0 ∷ 0x0A ∷ []) ∷ [])
     ∷ row (scan neither (0x1B ∷ 0x7F ∷ 0x61 ∷ []) ∷ finish true ∷ [])
     ((0 ∷ 0xFFFD ∷ 0x61 ∷ []) ∷ (0 ∷ 0x0A ∷ []) ∷ [])
+    ∷ row (scan neither (0x1B ∷ 0x1B ∷ 0x63 ∷ 0x61 ∷ []) ∷ finish true ∷ [])
+    ((0 ∷ 0x61 ∷ []) ∷ (0 ∷ 0x0A ∷ []) ∷ [])
+    -- "An empty image gets no 34F."
+    ∷ row (scan neither (0x1B ∷ 0x63 ∷ []) ∷ finish true ∷ [])
+    ((0 ∷ []) ∷ (0 ∷ 0x0A ∷ []) ∷ [])
+    -- "Any other character: its replacement."
+    ∷ row (scan neither (0x09 ∷ 0xFB03 ∷ 0x2126 ∷ 0xE000 ∷ []) ∷ finish true ∷ [])
+    ((0 ∷ 0x09 ∷ 0x66 ∷ 0x66 ∷ 0x69 ∷ 0x2126 ∷ 0xE000 ∷ []) ∷ (0 ∷ 0x0A ∷ []) ∷ [])
     ∷ []
 
 pub chunks : map computed chunkTable ≡ map (λ (x : Row). x .expected) chunkTable
