@@ -34,6 +34,7 @@ pub record Row : Type 0 where
 abbrev row : List Act → List (List ℕ) → Row
 row acts expected = record { acts = acts; expected = expected }
 
+-- "Options are `nel_compatibility` and `lsps_compatibility`."
 abbrev with : Bool → Bool → Options
 with nel lsps = record { «nel_compatibility» = nel; «lsps_compatibility» = lsps }
 
@@ -58,6 +59,8 @@ abbrev doneBy : TextInput → Act → Outcome
 doneBy r (scan o chunk) = scanOf r (0 ∷ 1 ∷ 0 ∷ 0x377 ∷ []) o chunk (replicate (roomFor chunk) 0xEEEEEEEE)
 doneBy r (finish eof) = finishOf r eof (0xEEEEEEEE ∷ 0xEEEEEEEE ∷ [])
 
+-- "Scan and finish write from the first place of the slice lent to that call, all of whose places are free, and return the number
+-- written": so many of the first places
 abbrev toldFrom : TextInput → List Act → List (List ℕ)
 toldFrom r [] = []
 toldFrom r (a ∷ more) =
