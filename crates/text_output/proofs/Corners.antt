@@ -7,7 +7,7 @@
 --     abandon-corners                       what abandon leaves
 --     opens, opens-with                     a record as first made, and the character that BOM mode hands out
 use Prim.Native.Nat.{ℕ, _+_, _<_}
-use mathlib.Core.Bool.{true, false}
+use mathlib.Core.Bool.{true, false, not, _&&_}
 use mathlib.Core.List.{List, [], _∷_, _++_, append-nil}
 use mathlib.Core.Path.{_≡_, refl, sym, _∙_}
 use native.Mathlib.Omega.{arith}
@@ -19,7 +19,7 @@ use Rattle.common.proofs.Kit.{never, split}
 use Rattle.ranges.specs.Ranges.{member}
 use Rattle.unicode.specs.Utf8.{charsOf}
 use Rattle.unicode.proofs.Texts.{longest-only}
-use Rattle.text_utils.specs.Classes.{basicTextEnd}
+use Rattle.text_utils.specs.Classes.{basicTextStart, basicTextEnd}
 use Rattle.text_output.specs.declared.Ground.the-variants.{Newline, ZwjOrPrepend, Other}
 use Rattle.text_output.specs.declared.State.{State}
 use Rattle.text_output.specs.declared.State.the-variants.{Ground as Grounded, Esc, Csi}
@@ -35,7 +35,6 @@ use Rattle.text_output.specs.Refusals.{refusalIn}
 use Rattle.text_output.specs.Orders.{inEscape, letsColor}
 use Rattle.text_output.specs.Corners.{Opens, saidBy, saidLast, WriteLeaves, Takes, WritesPrefix, EndLeaves, Abandons}
 use Rattle.text_output.proofs.Answers.{four-fails}
-use Rattle.text_output.proofs.Early.{handed-by}
 use Rattle.text_output.proofs.Steps.{Grows, opened, begun, longer, StepRefusal, four, six, Holds, mode-holds, mode-refuses}
 use Rattle.text_output.proofs.Escapes.{color-is}
 
@@ -154,15 +153,18 @@ module _ (w : TextOutput) where
   ended-corners : (p places : List ℕ) (s : Stepped) → Holds (λ (m : Machine). Unit {0}) s → Last (w .state) s →
       (letsColor (w .mode) ≡ false → inEscape (w .state) ≡ false → Holds Outside s) → WriteLeaves w s (endedBy p w s places .given)
   ended-corners p places (goes xs m) h l o =
-      handed-by (WriteLeaves w (goes xs m)) p (w .mode) (w .«expect_starter») m (w .kept + length xs) (sets places (w .kept) xs)
-      (record {
+      let after = sets places (w .kept) xs in
+      split (WriteLeaves w (goes xs m))
+      (w .«expect_starter» && (ltb 0 (w .kept + length xs) && not (basicTextStart p (getD after 0 0))))
+      (λ e.
+      record {
         spends = λ z. absurd (omega arith);
         stays = λ z. absurd (omega arith);
         stands-last = λ z. absurd (omega arith);
         no-escape = λ c i. refl;
         same-mode = refl;
       })
-      (record { spends = λ z. refl; stays = λ z. refl; stands-last = λ z. l; no-escape = o; same-mode = refl })
+      (λ e. record { spends = λ z. refl; stays = λ z. refl; stands-last = λ z. l; no-escape = o; same-mode = refl })
   ended-corners p places (stops xs m n) (h, r) l o =
       record {
         spends = λ z. absurd (refused r z);
@@ -216,7 +218,8 @@ module _ (w : TextOutput) where
 
   ended-lists : (p places : List ℕ) (s : Stepped) → Holds (λ (m : Machine). Unit {0}) s → Lists (endedBy p w s places .given)
   ended-lists p places (goes xs m) h =
-      handed-by Lists p (w .mode) (w .«expect_starter») m (w .kept + length xs) (sets places (w .kept) xs) refl refl
+      let after = sets places (w .kept) xs in
+      split Lists (w .«expect_starter» && (ltb 0 (w .kept + length xs) && not (basicTextStart p (getD after 0 0)))) (λ e. refl) (λ e. refl)
   ended-lists p places (stops xs m _) (h, four {reason}) = four-fails reason
   ended-lists p places (stops xs m _) (h, six) = refl
 

@@ -1,19 +1,15 @@
--- A fact of what tests of a write come to, from the same fact of each case. Idea: by the values of the tests, in whatever order they come.
---     refusal-by    of the number that refuses a write before its steps
---     bytes-by      of the number by which its bytes do
---     handed-by     of how it ends where its steps all go on: 5, or success
+-- A fact of the number that refuses a write before its steps, from the same fact of each number that can. Idea: by the values of the tests,
+-- in whatever order they come.
+--     refusal-by    of the number
+--     bytes-by      of the number by which bytes refuse
 use Prim.Native.Nat.{ℕ}
-use mathlib.Core.Bool.{Bool, true, false}
-use mathlib.Core.List.{List, [], _∷_}
+use mathlib.Core.List.{List}
 use lib.Dec.{eqb, ltb}
-use lib.ListN.{getD}
 use Rattle.common.proofs.Kit.{by, split}
 use Rattle.page.specs.Page.{accepted}
-use Rattle.text_utils.specs.Classes.{basicTextStart}
-use Rattle.text_output.specs.declared.Mode.{Mode}
 use Rattle.text_output.specs.declared.TextOutput.{TextOutput}
-use Rattle.text_output.specs.Writer.{Given, Machine, machineOf, writerWith, sound, abandonedBy}
-use Rattle.text_output.specs.Write.{inputRefusal, placesForWrite, writeRefusal, bytesRefusal, handOut}
+use Rattle.text_output.specs.Writer.{machineOf, sound}
+use Rattle.text_output.specs.Write.{inputRefusal, placesForWrite, writeRefusal, bytesRefusal}
 
 module _ (P : ℕ → Type 0) (zero : P 0) where
   pub refusal-by : P 9 → P 2 → P 8 → (w : TextOutput) (p : List ℕ) (values n room : ℕ) → P values → P (writeRefusal w p values n room)
@@ -30,12 +26,3 @@ module _ (P : ℕ → Type 0) (zero : P 0) where
       by (ltb 0 bytes)
       (λ s. by (eqb chars 0) (λ t. simp (s, t) search) (λ t. simp (s, t) search))
       (λ s. by (eqb chars 0) (λ t. simp (s, t) search) (λ t. simp (s, t) search))
-
-pub handed-by : (P : Given → Type 0) (p : List ℕ) (mode : Mode) (expect : Bool) (m : Machine) (k : ℕ) (places : List ℕ) →
-    P (abandonedBy (5 ∷ []) (writerWith mode false k m)) →
-    P (record { numbers = 0 ∷ k ∷ []; abandon = false; next = writerWith mode false 0 m }) → P (handOut p mode expect m k places)
-handed-by P p mode false m k places five handed = handed
-handed-by P p mode true m k places five handed =
-    by (ltb 0 k)
-    (λ t. by (basicTextStart p (getD places 0 0)) (λ u. simp (t, u) search) (λ u. simp (t, u) search))
-    (λ t. simp t search)

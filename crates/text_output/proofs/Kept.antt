@@ -4,11 +4,11 @@
 --     kept-behind, kept-behind-bytes             what its steps add is stored behind the kept characters, and handed out or kept with them
 --     flush-keeps, close-keeps, abandon-keeps    these leave how many are kept, refused or not
 use Prim.Native.Nat.{ℕ, _+_, _≤_, _<_}
-use mathlib.Core.Bool.{false}
+use mathlib.Core.Bool.{false, not, _&&_}
 use mathlib.Core.List.{List, [], _∷_}
 use mathlib.Core.Path.{_≡_, refl}
 use native.Mathlib.Omega.{arith}
-use lib.Dec.{eqb}
+use lib.Dec.{eqb, ltb}
 use lib.ListN.{length, take, getD}
 use lib.Seq.{sets}
 use borrow.Author.Tests.{eqb-false}
@@ -16,6 +16,7 @@ use Rattle.unicode.specs.Chars.{areChars}
 use Rattle.unicode.specs.Utf8.{charsOf}
 use Rattle.common.proofs.Kit.{never, split}
 use Rattle.common.proofs.Lists.{take-sets}
+use Rattle.text_utils.specs.Classes.{basicTextStart}
 use Rattle.text_output.specs.declared.Ground.the-variants.{Newline, ZwjOrPrepend, Other}
 use Rattle.text_output.specs.declared.State.{State}
 use Rattle.text_output.specs.declared.State.the-variants.{Ground, Esc, Csi}
@@ -26,7 +27,7 @@ use Rattle.text_output.specs.Write.{runIn, endedBy, writtenBy, unlessRef
 use Rattle.text_output.specs.Close.{flushIn, flushOf, closeIn, closeOf, abandonOf}
 use Rattle.text_output.specs.Kept.{byItsSteps, KeptFirst, KeptBehind}
 use Rattle.text_output.specs.Orders.{added}
-use Rattle.text_output.proofs.Early.{refusal-by, bytes-by, handed-by}
+use Rattle.text_output.proofs.Early.{refusal-by, bytes-by}
 use Rattle.text_output.proofs.Steps.{StepRefusal, four, six, Holds, mode-refuses}
 
 refusal-first : {n : List ℕ} → StepRefusal n → 0 < getD n 0 0
@@ -62,9 +63,10 @@ module _ (w : TextOutput) (places : List ℕ) where
   ended-behind p (goes xs m) h =
       let k = w .kept + length xs in
       let after = sets places (w .kept) xs in
-      handed-by (λ (g : Given). KeptBehind w places xs (record { given = g; places = after })) p (w .mode) (w .«expect_starter») m k after
-      (record { handed = λ z. absurd (omega arith); kept-behind = λ z. refl; stored = λ z. refl })
-      (record { handed = λ z. refl; kept-behind = λ z. never z; stored = λ z. refl })
+      split (λ (g : Given). KeptBehind w places xs (record { given = g; places = after }))
+      (w .«expect_starter» && (ltb 0 k && not (basicTextStart p (getD after 0 0))))
+      (λ e. record { handed = λ z. absurd (omega arith); kept-behind = λ z. refl; stored = λ z. refl })
+      (λ e. record { handed = λ z. refl; kept-behind = λ z. never z; stored = λ z. refl })
   ended-behind p (stops xs m n) (h, r) =
       record { handed = λ z. absurd (omega (arith, refusal-first r, z)); kept-behind = λ z. refl; stored = λ z. refl }
 
@@ -74,8 +76,10 @@ module _ (w : TextOutput) (places : List ℕ) where
       let k = w .kept + length xs in
       let after = sets places (w .kept) xs in
       let same = take-sets (w .kept) xs places (w .kept) (omega arith) in
-      handed-by (λ (g : Given). KeptFirst w places (record { given = g; places = after })) p (w .mode) (w .«expect_starter») m k after
-      (refused-keeps after _ same (omega arith) (omega arith)) (handed-keeps after k _ same (omega arith) refl)
+      split (λ (g : Given). KeptFirst w places (record { given = g; places = after }))
+      (w .«expect_starter» && (ltb 0 k && not (basicTextStart p (getD after 0 0))))
+      (λ e. refused-keeps after _ same (omega arith) (omega arith))
+      (λ e. handed-keeps after k _ same (omega arith) refl)
   ended-keeps p (stops xs m n) h =
       refused-keeps (sets places (w .kept) xs) _ (take-sets (w .kept) xs places (w .kept) (omega arith)) (refusal-first (h .1)) (omega arith)
 

@@ -8,13 +8,14 @@ use mathlib.Core.Bool.{true, false, not, _&&_}
 use mathlib.Core.List.{List, [], _∷_}
 use mathlib.Core.Path.{_≡_, refl, sym}
 use native.Mathlib.Omega.{arith}
-use lib.Dec.{eqb}
+use lib.Dec.{eqb, ltb}
 use lib.ListN.{length, drop, getD}
 use lib.Seq.{sets}
 use Rattle.unicode.specs.Chars.{areChars}
 use Rattle.unicode.specs.Utf8.{charsOf}
 use Rattle.common.proofs.Kit.{never, split, both-true}
 use Rattle.common.proofs.Lists.{drop-sets}
+use Rattle.text_utils.specs.Classes.{basicTextStart}
 use Rattle.text_output.specs.declared.Ground.the-variants.{Newline, ZwjOrPrepend, Other}
 use Rattle.text_output.specs.declared.State.{State}
 use Rattle.text_output.specs.declared.State.the-variants.{Ground, Esc, Csi}
@@ -24,7 +25,7 @@ use Rattle.text_output.specs.Step.{Stepped, goes, stops}
 use Rattle.text_output.specs.Write.{runIn, endedBy, writtenBy, writeRefusal, refusedWrite, unlessRefused, charsRefusal, writeStrRefusal, writeStrOf, bytesRefusal, writeBytesRefusal, writeOf}
 use Rattle.text_output.specs.Close.{expecting, flushIn, flushOf, closeIn, closeOf}
 use Rattle.text_output.specs.Refusals.{Call, write, flush, close, refusalIn, filledIn, oneOf, isClose, isQuiet, isOther, isSparing, Leaves, SecondCloses}
-use Rattle.text_output.proofs.Early.{refusal-by, bytes-by, handed-by}
+use Rattle.text_output.proofs.Early.{refusal-by, bytes-by}
 use Rattle.text_output.proofs.Steps.{StepRefusal, four, six, Holds, mode-refuses}
 use Rattle.text_output.proofs.Answers.{four-fails}
 
@@ -157,9 +158,10 @@ module _ (w : TextOutput) (places : List ℕ) where
       let k = w .kept + length xs in
       let after = sets places (w .kept) xs in
       let past = drop-sets k places (w .kept) xs (omega arith) in
-      handed-by (λ (g : Given). Leaves write w places (record { given = g; places = after })) p (w .mode) (w .«expect_starter») m k after
-      (loud write w places 5 [] (writerWith (w .mode) false k m) after refl (λ q. never q) (λ q. refl) (λ q. never q) (λ q. never q) past)
-      (handed write w places (0 ∷ k ∷ []) _ after refl (λ q. never q) past)
+      split (λ (g : Given). Leaves write w places (record { given = g; places = after }))
+      (w .«expect_starter» && (ltb 0 k && not (basicTextStart p (getD after 0 0))))
+      (λ e. loud write w places 5 [] (writerWith (w .mode) false k m) after refl (λ q. never q) (λ q. refl) (λ q. never q) (λ q. never q) past)
+      (λ e. handed write w places (0 ∷ k ∷ []) _ after refl (λ q. never q) past)
   ended-leaves p (stops xs m n) h =
       let k = w .kept + length xs in
       stopped-leaves (h .1) (writerWith (w .mode) (w .«expect_starter») k m) _ refl (drop-sets k places (w .kept) xs (omega arith))

@@ -6,16 +6,17 @@
 --     write-sound, write-bytes-sound, flush-sound, close-sound    .. after each call on a sound one
 --     abandon-sound                                               .. after `abandon` on any
 use Prim.Native.Nat.{ℕ, _+_}
-use mathlib.Core.Bool.{true}
+use mathlib.Core.Bool.{true, not, _&&_}
 use mathlib.Core.List.{List}
 use mathlib.Core.Path.{_≡_, refl}
 use native.Mathlib.Omega.{arith}
-use lib.Dec.{eqb, leb}
-use lib.ListN.{length}
+use lib.Dec.{eqb, leb, ltb}
+use lib.ListN.{length, getD}
 use lib.Seq.{sets}
 use borrow.Author.Tests.{eqb-true, leb-true, le-leb}
 use Rattle.unicode.specs.Utf8.{charsOf}
 use Rattle.common.proofs.Kit.{split, both-true, both}
+use Rattle.text_utils.specs.Classes.{basicTextStart}
 use Rattle.text_output.specs.declared.Ground.the-variants.{Newline, ZwjOrPrepend, Other}
 use Rattle.text_output.specs.declared.State.{State}
 use Rattle.text_output.specs.declared.State.the-variants.{Ground, Esc, Csi}
@@ -25,7 +26,6 @@ use Rattle.text_output.specs.Writer.{Given, Outcome, Machine, machineOf,
 use Rattle.text_output.specs.Step.{Stepped, goes, stops, holding, writeStepOf}
 use Rattle.text_output.specs.Write.{runIn, endedBy, writtenBy, unlessRefused, writeStrRefusal, writeStrOf, writeBytesRefusal, writeOf}
 use Rattle.text_output.specs.Close.{flushIn, flushOf, closeIn, closeOf, abandonOf}
-use Rattle.text_output.proofs.Early.{handed-by}
 use Rattle.text_output.proofs.Steps.{Grows, opened, begun, longer, Holds, step-holds, mode-holds}
 
 -- the record is sound
@@ -54,7 +54,9 @@ module _ (w : TextOutput) (h : IsSound w) where
   ended-sound : (p : List ℕ) (s : Stepped) (places : List ℕ) → Holds (λ (m : Machine). sound m ≡ true) s →
       IsSound (endedBy p w s places .given .next)
   ended-sound p (goes xs m) places s =
-      handed-by (λ (g : Given). IsSound (g .next)) p (w .mode) (w .«expect_starter») m (w .kept + length xs) (sets places (w .kept) xs) refl s
+      let after = sets places (w .kept) xs in
+      split (λ (g : Given). IsSound (g .next))
+      (w .«expect_starter» && (ltb 0 (w .kept + length xs) && not (basicTextStart p (getD after 0 0)))) (λ e. refl) (λ e. s)
   ended-sound p (stops xs m n) places s = refl
 
   written-sound : (p chars places : List ℕ) → IsSound (writtenBy w p chars places .given .next)
