@@ -55,6 +55,26 @@ table =
           write 200 (0x2126 ∷ []) gives told (4 ∷ 16 ∷ 0x2126 ∷ 1 ∷ 0x2126 ∷ 0 ∷ 0 ∷ []) (1 ∷ 0 ∷ 1 ∷ 0 ∷ []) [] ∷
           [];
     }
+    -- each reason of the check, 4 and 15 apart, which are the state machine's
+    ∷ record {
+      mode = Plain;
+      page = 0 ∷ 1 ∷ 0 ∷ 0x377 ∷ [];
+      calls =
+          write 200 (0x01 ∷ []) gives told (4 ∷ 2 ∷ 0x01 ∷ []) (1 ∷ 0 ∷ 1 ∷ 0 ∷ []) [] ∷
+          write 200 (0x206A ∷ []) gives told (4 ∷ 3 ∷ 0x206A ∷ []) (1 ∷ 0 ∷ 1 ∷ 0 ∷ []) [] ∷
+          write 200 (0x202A ∷ []) gives told (4 ∷ 5 ∷ []) (1 ∷ 0 ∷ 1 ∷ 0 ∷ []) [] ∷
+          write 200 (0xFFF9 ∷ []) gives told (4 ∷ 6 ∷ []) (1 ∷ 0 ∷ 1 ∷ 0 ∷ []) [] ∷
+          write 200 (0xE0001 ∷ []) gives told (4 ∷ 7 ∷ []) (1 ∷ 0 ∷ 1 ∷ 0 ∷ []) [] ∷
+          write 200 (0x2028 ∷ []) gives told (4 ∷ 8 ∷ []) (1 ∷ 0 ∷ 1 ∷ 0 ∷ []) [] ∷
+          write 200 (0xFDD0 ∷ []) gives told (4 ∷ 9 ∷ []) (1 ∷ 0 ∷ 1 ∷ 0 ∷ []) [] ∷
+          write 200 (0x2029 ∷ []) gives told (4 ∷ 10 ∷ []) (1 ∷ 0 ∷ 1 ∷ 0 ∷ []) [] ∷
+          write 200 (0xFEFF ∷ []) gives told (4 ∷ 11 ∷ []) (1 ∷ 0 ∷ 1 ∷ 0 ∷ []) [] ∷
+          write 200 (0xFFFC ∷ []) gives told (4 ∷ 12 ∷ []) (1 ∷ 0 ∷ 1 ∷ 0 ∷ []) [] ∷
+          write 200 (0x17B4 ∷ []) gives told (4 ∷ 13 ∷ 0x17B4 ∷ []) (1 ∷ 0 ∷ 1 ∷ 0 ∷ []) [] ∷
+          write 200 (0x17D8 ∷ []) gives told (4 ∷ 14 ∷ []) (1 ∷ 0 ∷ 1 ∷ 0 ∷ []) [] ∷
+          write 200 (0xFB03 ∷ []) gives told (4 ∷ 16 ∷ 0xFB03 ∷ 3 ∷ 0x66 ∷ 0x66 ∷ 0x69 ∷ []) (1 ∷ 0 ∷ 1 ∷ 0 ∷ []) [] ∷
+          [];
+    }
     -- of two refused characters the first gives the reason
     ∷ record {
       mode = Plain;
