@@ -10,6 +10,9 @@ The item right under the comment (a definition, theorem, function, constant, fie
 stands; a comment above no item, as the head of a file, cites nothing, nor does specs/Inner.antt, on which no entry's contract
 stands. It fails
   - on words of a sentence that no item quotes, unless NO_PROOF has the sentence or its line is marked (02);
+  - on a sentence that one definition alone holds, so that code and definition could be wrong together: besides the definition a law
+    has to quote it (an item of proofs/, or a statement of specs/, whose declaration says `.. → Type 0` or has parameters), or an item
+    of a file that a theorem ties to another source (TIED), or ALONE has it;
   - on a quotation that stands word for word in neither document. One of three words or more may stand in a file of the Rust
     instead, and one behind the name of another source (OTHERS) on its line is not looked up;
   - on a wrong program that quotes nothing, or a sentence that no item cites;
@@ -55,6 +58,37 @@ NO_PROOF = {
     "Other cases and published": "run and compared: harness/compare",
 }
 
+# The files of specs/ whose definitions a theorem ties to another source, so that no wrong reading of the one passes by itself.
+TIED = {
+    "unicode/specs/Utf8.antt": "RFC 3629's grammar: grammar, longest (unicode)",
+    "isolate_unassigned/specs/Meaning.antt": "the Rust's two flags: isolate-means (isolate_unassigned)",
+    "text_input/specs/Pieces.antt": "the Rust's steps: whole (text_input)",
+    "text_input/specs/Streams.antt": "the Rust's steps: stream (text_input)",
+    "one_reading/specs/Calls.antt": "the calls: demand3 (one_reading)",
+    "one_reading/specs/Demand.antt": "the calls: demand3 (one_reading)",
+    "one_reading/specs/Cases.antt": "the calls: cases (one_reading)",
+}
+
+# The sentences that one definition, or the code's form, holds alone, by their first words, and why that is enough.
+ALONE = {
+    "Characters are lent as 32-bit": "the types of the entries",
+    "The reference is `process_raw_string`": "the Rust is compared: harness/README.md",
+    "The reference is the status block": "the Rust is compared: harness/README.md",
+    "The references are `write`": "the Rust is compared: harness/README.md",
+    "The property page stands in": "about the harness, which builds it: harness/src/page.rs",
+    "`VecDeque` and `String`": "a form of the code",
+    "The iterator chain": "a form of the code",
+    "Guarded matches": "a form of the code",
+    "`Box<[char]>`": "a form of the code",
+    "Core first": "a form of the code",
+    "let .. else takes": "a form of the code",
+    "'exported on numbers": "a form of the code",
+    "'Each writer mode": "a form of the code",
+    "limits 64 and 136": "a form of the code",
+    "'Replacement is one decision": "a form of the code",
+    "'flush, close and abandon": "a form of the code",
+}
+
 wrong = []
 met = set()
 
@@ -70,10 +104,14 @@ class Clause:
     def __init__(self, heading, line, start, end, why_not):
         self.heading, self.text, self.why_not = heading, line[start:end].strip(" -"), why_not
         self.words = {(start + m.start(), start + m.end()): m.group() for m in re.finditer(r"\w+", line[start:end])}
-        self.quoted, self.items, self.programs = set(), [], []
+        self.quoted, self.items, self.programs, self.held = set(), [], [], False
 
     def missing(self):
         return [] if self.why_not else [w for place, w in self.words.items() if place not in self.quoted]
+
+    def alone(self):
+        """Why one definition is enough for the sentence; None where nothing says so."""
+        return next((why for first, why in ALONE.items() if self.text.startswith(first)), None)
 
 
 def clauses(heading, line):
@@ -140,10 +178,15 @@ def name_in(line):
     return next((w for w in re.findall(r"[^\s:(){}<>;,=]+", line) if w not in KEYWORDS), None)
 
 
+def is_statement(line):
+    """Whether a declaration of specs/ says what holds, and not what something is."""
+    return bool(re.search(r"→ Type 0( where)?$|^(pub )?(record|data) \S+ [({]", line))
+
+
 def comments(path):
-    """The comments of a file, each as its lines, with the item right under it, or None."""
+    """The comments of a file, each as its lines, with the item right under it, or None, and whether that is a statement."""
     mark = "//" if path.endswith(".rt") else "--"
-    block, outer = [], None
+    block, outer, states = [], None, False
     for line in read(path).split("\n"):
         bare = line.strip()
         if bare.startswith(mark):
@@ -157,8 +200,9 @@ def comments(path):
             item = ".".join(x for x in (outer, inner) if x)
         elif bare and not bare.startswith("#["):
             item = outer = name_in(bare) or outer
+            states = is_statement(bare)
         if block and not bare.startswith("#["):
-            yield block, item
+            yield block, item, states
             block = []
 
 
@@ -175,7 +219,7 @@ def check_tree(lines):
     files = [glob.glob(os.path.join(CRATES, "*", kind), recursive=True) for kind in ("specs/**/*.antt", "proofs/**/*.antt", "src/**/*.rt")]
     for path in sorted(sum(files, [])):
         name = os.path.relpath(path, CRATES)
-        for block, item in comments(path):
+        for block, item, states in comments(path):
             text = " ".join(block)
             if text.count('"') % 2:
                 wrong.append(f"{name}: a quotation without its end, above {item}")
@@ -184,6 +228,7 @@ def check_tree(lines):
                 cited = cite(quotation, lines)
                 for clause, words in cited if cited and item and not name.endswith("specs/Inner.antt") else []:
                     clause.quoted |= words
+                    clause.held |= states or "/proofs/" in name or name in TIED
                     if f"{name}  {item}" not in clause.items:
                         clause.items.append(f"{name}  {item}")
                 of_rust = len(quotation.split()) > 2 and any(stands(quotation, rust))
@@ -239,7 +284,9 @@ def print_map(every):
         if clause.why_not:
             print(f"    owes no proof: {clause.why_not}")
         for item in clause.items:
-            print(f"    {item}")
+            print(f"    {item}" + (f"   (tied to {TIED[item.split()[0]]})" if item.split()[0] in TIED else ""))
+        if not clause.why_not and not clause.held and clause.alone():
+            print(f"    one definition is enough: {clause.alone()}")
         for program in clause.programs:
             print(f"    wrong: {program}")
     print()
@@ -255,6 +302,9 @@ def main():
     quotations, programs, names = check_tree(lines), check_programs(lines), check_names()
     wrong.extend(f"NO_PROOF: no sentence begins with: {first}" for first in NO_PROOF if first not in met)
     wrong.extend(f"{c.heading}: no item quotes `{' '.join(c.missing())}` of: {c.text}" for c in every if c.missing())
+    wrong.extend(f"{c.heading}: one definition alone holds: {c.text}" for c in every if not (c.why_not or c.held or c.alone()))
+    wrong.extend(f"ALONE: no sentence that needs it begins with: {first}" for first in ALONE if not any(c.text.startswith(first) and not c.held for c in every))
+    wrong.extend(f"TIED: no file {name}" for name in TIED if not os.path.isfile(os.path.join(CRATES, name)))
     if sys.argv[1:] == ["map"]:
         print_map(every)
     for line in wrong:

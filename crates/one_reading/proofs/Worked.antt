@@ -11,7 +11,7 @@ use Rattle.page.specs.Page.{sized, rising, nonstarter, assigned, accepted}
 use Rattle.text_utils.specs.Classes.{starter, graphemeExtendNotCgj, spacingMarkPlus, basicTextStart, basicTextEnd, isPrivateUse}
 use Rattle.replace.specs.Replace.{replaceOf}
 use Rattle.check_char.specs.Check.{reasonOf, checkNumbers}
-use Rattle.isolate_unassigned.specs.Isolate.{toIsolate, isolateStepOf as isolateStep, isolateOf}
+use Rattle.isolate_unassigned.specs.Meaning.{toIsolate, isolated}
 use Rattle.text_input_parts.specs.PieceSets.{crOrLf}
 use Rattle.text_input_parts.specs.Refusals.{chunkRefusal, refusalOf}
 use Rattle.text_input.specs.Sets.{optionalLine}
@@ -76,14 +76,14 @@ count-computed = refl
 
 -- what demand 3 says of the write with exactly 3 × 3 places and of the close
 passed : Passes queue wrote closed
-unfolding seen queueOf wrote closed toIsolate isolateStep isolateOf assigned member
+unfolding seen queueOf wrote closed toIsolate isolated assigned member
 passed =
     demand3 page good-page options calls once-finished seen seen-is .passes none-excepted (lent 9) (omega arith) wrote refl closed refl
 
 pub worked : Worked
 unfolding wrote closed writeStrOf writeRefusal writtenBy runOf parts moreParts stepsOf writeStepOf groundOf closeOf isChar
     replaceOf reasonOf checkNumbers basicTextStart basicTextEnd starter graphemeExtendNotCgj spacingMarkPlus isPrivateUse
-    toIsolate isolateStep isolateOf accepted sized rising nonstarter assigned member rises
+    toIsolate isolated accepted sized rising nonstarter assigned member rises
 worked =
     record {
       good = good-page;
