@@ -61,9 +61,14 @@ NO_PROOF = {
 # The files of specs/ whose definitions a theorem ties to another source, so that no wrong reading of the one passes by itself.
 TIED = {
     "unicode/specs/Utf8.antt": "RFC 3629's grammar: grammar, longest (unicode)",
+    "page/specs/Clauses.antt": "the test of a page: clauses-of-accepted, accepted-of-clauses (page)",
+    "replace/specs/Nonchars.antt": "the list of the Rust: nonchars-are (replace)",
+    "text_utils/specs/Uax29.antt": "the properties of UAX #44: start-by-uax29, end-by-uax29 (text_utils)",
     "isolate_unassigned/specs/Meaning.antt": "the Rust's two flags: isolate-means (isolate_unassigned)",
+    "text_input_parts/specs/PieceSets.antt": "the sets of the steps: parameter-is and the like (text_input_parts)",
     "text_input/specs/Pieces.antt": "the Rust's steps: whole (text_input)",
     "text_input/specs/Streams.antt": "the Rust's steps: stream (text_input)",
+    "text_output/specs/Orders.antt": "the tests of the calls: write-order and the like (text_output)",
     "one_reading/specs/Calls.antt": "the calls: demand3 (one_reading)",
     "one_reading/specs/Demand.antt": "the calls: demand3 (one_reading)",
     "one_reading/specs/Cases.antt": "the calls: cases (one_reading)",
@@ -83,7 +88,6 @@ ALONE = {
     "Core first": "a form of the code",
     "let .. else takes": "a form of the code",
     "'exported on numbers": "a form of the code",
-    "'Each writer mode": "a form of the code",
     "limits 64 and 136": "a form of the code",
     "'Replacement is one decision": "a form of the code",
     "'flush, close and abandon": "a form of the code",

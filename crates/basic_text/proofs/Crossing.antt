@@ -14,6 +14,7 @@ use Rattle.text_output.specs.declared.TextOutput.{TextOutput}
 use Rattle.basic_text_numbers.proofs.Back.{flag-back, state-back, mode-back, writer-state-back}
 use Rattle.basic_text.specs.Exports.{numberOf, numbersOf, bytesOf, recordOf, recordNumbers, writerOf, writerNumbers}
 
+-- "Scan, finish and byte write are exported on numbers and byte slices for the Rust harness."
 pub record-back : (r : TextInput) → recordOf (recordNumbers r) ≡ r
 record-back r =
     λ i. record {

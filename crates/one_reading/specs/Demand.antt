@@ -43,7 +43,8 @@ pub record Promise (page : List ℕ) (options : Options) (calls : List Call) (qu
   -- one that the write returned." It hands out "the queue isolated as one run with the page."
   pub passes : NoneExcepted queue → PassesIn Plain page queue (isolated page queue)
 
--- for every accepted page, options, list of calls and what a caller sees of it, from a fresh record
+-- for every accepted page, options, list of calls and what a caller sees of it, from a fresh record: "A fresh record is one as first
+-- made, with no call on it yet."
 -- "Demand 3 is one statement about the whole list of calls, and not a statement for each call." "Once scan, finish, plain write and
 -- close run, demand 3 is owed, all of it, in that delivery."
 abbrev pub Demand3 : Type 0

@@ -51,7 +51,8 @@ abbrev pub withoutBom : List ℕ → List ℕ
 withoutBom [] = []
 withoutBom (c ∷ cs) = cond (eqb c 0xFEFF) cs (c ∷ cs)
 
--- "U+FEFF is dropped only as the first character of the first call": the first chunk loses it, and no other
+-- "U+FEFF is dropped only as the first character of the first call": the first chunk loses it, and no other, so that "dropping any
+-- leading FEFF of a later chunk" does not pass
 abbrev pub withoutBomFirst : List (List ℕ) → List (List ℕ)
 withoutBomFirst [] = []
 withoutBomFirst (c ∷ cs) = withoutBom c ∷ cs

@@ -17,7 +17,7 @@ parameterChar c = within 0x20 0x3F c
 unfoldable pub finalChar : ℕ → Bool
 finalChar c = within 0x40 0x7E c || eqb c 0x18
 
--- "with it if it is 07 or 18"
+-- "with it if it is 07 or 18"; so "letting a newline end an OSC (`ESC ]`) string" does not pass
 unfoldable pub stringLast : ℕ → Bool
 stringLast c = eqb c 0x07 || eqb c 0x18
 
