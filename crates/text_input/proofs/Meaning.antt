@@ -39,7 +39,7 @@ use Rattle.text_input.specs.Pieces.{isLine, optionChar, lineChar, Piece,
 use Rattle.text_input.specs.Pieces.{startMark}
 use Rattle.text_input.specs.Streams.{owedAfter}
 use Rattle.text_input_parts.proofs.Last.{last-append}
-use Rattle.text_input.proofs.Pins.{pins}
+use Rattle.text_input.proofs.Sets.{option-is}
 use Rattle.text_input.proofs.Cut.{Inner, cr, ff, esc, csiStart, csi, osc, linux, stateOf, kindOf, cut}
 use Rattle.text_input.proofs.Unique.{Class, opens, single, class, kindC, tailOf, longest-of, first-unique, no-piece}
 use Rattle.text_input.proofs.Run.{Closed, pre, expectAfter, guard, at, complete, told, onward, guard-line, run-cut}
@@ -118,9 +118,9 @@ module _ (p : List ℕ) (o : Options) (eof start : Bool) (count : ℕ) where
   opened-by good b c t e n false false false true z hd hf hg ha hz =
       rw (eqb-true c 0x0A ha) (unfold told expectAfter in rw (guard-line p o eof start count good e))
   opened-by good b c t e n false false false false true hd hf hg ha hz =
-      rw (pins o c, hd, hf, hg, ha, hz) (unfold told expectAfter in rw (guard-line p o eof start count good e))
+      rw (option-is o c, hd, hf, hg, ha, hz) (unfold told expectAfter in rw (guard-line p o eof start count good e))
   opened-by good b c t e n false false false false false hd hf hg ha hz =
-      rw (pins o c, hd, hf, hg, ha, hz) (over-other (replaceOf c) e n t)
+      rw (option-is o c, hd, hf, hg, ha, hz) (over-other (replaceOf c) e n t)
 
   over-first : accepted p ≡ true → (c : ℕ) (t : List ℕ) (x : Class) (e : Bool) (n : ℕ) →
       opened x c e n t

@@ -31,7 +31,7 @@ use Rattle.text_input_parts.specs.Appended.{lastOf}
 use Rattle.text_input.specs.Step.{outChars, metOf, leftOf, leaveOf, meetOf, scanStepOf}
 use Rattle.text_input.specs.Scan.{finishChars, afterLine}
 use Rattle.text_input.specs.Pieces.{Kind, escape, isLine, stringChar, pieceImage, pageImage}
-use Rattle.text_input_parts.proofs.Pins.{parameter-is, final-is, string-end-is, up-to-is}
+use Rattle.text_input_parts.proofs.PieceSets.{parameter-is, final-is, string-end-is, up-to-is}
 use Rattle.text_input.proofs.Recognise.{cond-id}
 use Rattle.text_input.proofs.Cut.{Inner, cr, ff, esc, csiStart, csi, osc, linux, stateOf, kindOf, Move, goes, closes, stops}
 use Rattle.text_input.proofs.Cut.{move, Cut, cut, cut-by}

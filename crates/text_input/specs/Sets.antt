@@ -1,5 +1,5 @@
 -- The line ends that an option adds, by which the steps go (specs/Step.antt). The pieces have theirs (`optionChar`, specs/Pieces.antt),
--- which proofs/Pins.antt proves equal. The other sets of the steps are those of `text_input_parts`.
+-- which proofs/Sets.antt proves equal. The other sets of the steps are those of `text_input_parts`.
 use Prim.Native.Nat.{ℕ}
 use mathlib.Core.Bool.{Bool, _&&_, _||_}
 use lib.Dec.{eqb}

@@ -1,14 +1,21 @@
 -- The order of a scan's refusals, with document 01's numbers written out. Idea: by cases of the four conditions.
+--     places-are       what a chunk asks for, as a test of its places
 --     refusal-order    the number of a scan's refusal is the first of 2, 1, 10, 8 whose condition holds
 --     limits           the count's limit is reached by an accepted scan, and passed by none
-use Prim.Native.Nat.{ℕ, _+_, _*_}
+use Prim.Native.Nat.{ℕ, zero, suc, _+_, _*_}
 use mathlib.Core.Path.{_≡_, refl, ap, _∙_}
 use mathlib.Core.Bool.{Bool, true, false, cond, not, _&&_}
 use mathlib.Core.List.{[], _∷_}
+use native.Mathlib.Omega.{arith}
+use borrow.Author.Tests.{lt-ltb, le-ltb}
 use lib.Dec.{eqb, ltb}
 use Rattle.common.specs.Order.{_when_, firstOf}
 use Rattle.text_input_parts.specs.Refusals.{placesForChunk, chunkRefusal, refusalOf}
-use Rattle.text_input_parts.proofs.Pins.{rooms}
+
+-- "A chunk of n characters needs 3 × n + 1 free places, an empty one none."
+pub places-are : (n room : ℕ) → ltb room (placesForChunk n) ≡ ltb 0 n && ltb room (3 * n + 1)
+places-are zero room = le-ltb room 0 (omega arith)
+places-are (suc n) room = rw (lt-ltb 0 (suc n) (omega arith))
 
 order-by : (a b d e : Bool) →
     _≡_ {A = ℕ} (cond (eqb (cond (not a) 2 (cond (not b) 1 (cond d 10 0))) 0) (cond e 8 0) (cond (not a) 2 (cond (not b) 1 (cond d 10 0))))
@@ -28,7 +35,7 @@ pub refusal-order : (count : ℕ) (page chars : Bool) (n room : ℕ) →
 unfolding refusalOf chunkRefusal
 refusal-order count page chars n room =
     order-by page chars (ltb 4294967295 (count + n)) (ltb room (placesForChunk n))
-    ∙ ap (λ e. cond (not page) 2 (cond (not chars) 1 (cond (ltb 4294967295 (count + n)) 10 (cond e 8 0)))) (rooms n room)
+    ∙ ap (λ e. cond (not page) 2 (cond (not chars) 1 (cond (ltb 4294967295 (count + n)) 10 (cond e 8 0)))) (places-are n room)
 
 -- the limit, with room and without a fault: one character more makes the count 4,294,967,295, then one more is refused and none more is
 -- not. The answers are those of the comparison's oracle.

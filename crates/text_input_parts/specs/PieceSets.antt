@@ -1,5 +1,5 @@
 -- The sets of characters that the pieces of a text are made of (`text_input`, specs/Pieces.antt), from document 01's words, "Pieces of
--- a text". The steps have theirs (specs/Sets.antt); proofs/Pins.antt proves each pair equal for every number, so that a wrong
+-- a text". The steps have theirs (specs/Sets.antt); proofs/PieceSets.antt proves each pair equal for every number, so that a wrong
 -- set of the steps is refused though code and definition follow it.
 use Prim.Native.Nat.{ℕ}
 use mathlib.Core.Bool.{Bool, _&&_, _||_}

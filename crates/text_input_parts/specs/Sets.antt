@@ -1,5 +1,5 @@
 -- The sets of characters that the steps tell apart (`text_input`, specs/Step.antt). Document 01, "Pieces of a text". The pieces have
--- sets of their own, which proofs/Pins.antt proves equal.
+-- sets of their own, which proofs/PieceSets.antt proves equal.
 use Prim.Native.Nat.{ℕ}
 use mathlib.Core.Bool.{Bool, _&&_, _||_}
 use lib.Dec.{eqb, leb}
