@@ -90,7 +90,6 @@ ALONE = {
     "'exported on numbers": "a form of the code",
     "limits 64 and 136": "a form of the code",
     "'Replacement is one decision": "a form of the code",
-    "'flush, close and abandon": "a form of the code",
 }
 
 wrong = []

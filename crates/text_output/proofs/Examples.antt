@@ -296,6 +296,15 @@ table =
           write 200 (0x7F ∷ []) gives told (4 ∷ 15 ∷ []) (1 ∷ 0 ∷ 0 ∷ 0 ∷ []) [] ∷
           [];
     }
+    -- "Each character is checked, refused ones becoming 1A, then isolated, then stepped through `state_machine_char`."
+    ∷ record {
+      mode = Plain;
+      page = 0 ∷ 1 ∷ 0 ∷ 0x377 ∷ [];
+      calls =
+          write 200 (0x378 ∷ 0x0A ∷ []) gives told (0 ∷ 4 ∷ []) (0 ∷ 0 ∷ 0 ∷ 0 ∷ []) (0x34F ∷ 0x378 ∷ 0x34F ∷ 0x0A ∷ []) ∷
+          close gives told [] (0 ∷ 0 ∷ 1 ∷ 0 ∷ []) [] ∷
+          [];
+    }
     -- CRLF: 0A gives 0D 0A, also behind another
     ∷ record {
       mode = Crlf;

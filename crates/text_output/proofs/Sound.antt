@@ -72,6 +72,7 @@ module _ (w : TextOutput) (h : IsSound w) where
       split (λ (r : Outcome). IsSound (r .given .next)) (eqb n 0) (λ e. s)
       (λ e. split (λ (g : Given). IsSound (g .next)) (eqb n 3) (λ t. refl) (λ t. h))
 
+  -- "Held counts the characters of an escape in progress, else 0."
   pub write-sound : (p chars places : List ℕ) → IsSound (writeStrOf w p chars places .given .next)
   unfolding writeStrOf
   write-sound p chars places =

@@ -177,6 +177,7 @@ module _ (f : TextOutput → Told) (g : Name) {M : Type 1} (𝓤 : URA M) (H : H
   goes : AllGo 𝓤 H A W 1 (sort.signature .params) (sort.ended .kept) stayed
   goes = (goes-ref 𝓤 H A W 1 0 tt (plain (λ _. T.the-row)), tt)
 
+  -- "flush, close and abandon also exist over a lent record"
   pub lent-meets : (𝓣 : Tables 𝓤 H) → Triple 𝓤 (𝓣 .C g) (Method f 𝓤 H A) → Meets 𝓤 H A sort.signature (WpFn 𝓤 H (𝓣 .C) (𝓣 .Λ) (lent g)) (closing 𝓤 H A sort.ended (lent-clauses 𝓤 Q))
   lent-meets 𝓣 known = walk-meets 𝓤 H A sort.ended stayed W goes (lent-clauses 𝓤 Q) (WpFn 𝓤 H (𝓣 .C) (𝓣 .Λ) (lent g)) (WpFn-mono 𝓤 H (W .laws) 𝓣 (lent g))
       (walks (𝓣 .C) (𝓣 .Λ) (fmOf 𝓤 H (W .laws) 𝓣) known)
