@@ -35,7 +35,7 @@ use Rattle.text_output.specs.Refusals.{refusalIn}
 use Rattle.text_output.specs.Orders.{inEscape, letsColor}
 use Rattle.text_output.specs.Corners.{Opens, saidBy, saidLast, WriteLeaves, Takes, WritesPrefix, EndLeaves, Abandons}
 use Rattle.text_output.proofs.Answers.{four-fails}
-use Rattle.text_output.proofs.Steps.{Grows, opened, begun, longer, StepRefusal, four, six, Holds, mode-holds, mode-refuses}
+use Rattle.text_output.proofs.Steps.{Grows, opened, begun, longer, refusal-first, four, six, Holds, mode-holds, mode-refuses}
 use Rattle.text_output.proofs.Escapes.{color-is}
 
 -- ---- what stands last
@@ -137,10 +137,6 @@ hold-outside mode h m Csi Csi c e (longer low) i = never (sym (rw e at i))
 not-zero : (n : ℕ) → 0 < n → eqb n 0 ≡ false
 not-zero n h = ne-eqb n 0 (λ z. omega arith)
 
-refused : {n : List ℕ} → StepRefusal n → getD n 0 0 ≡ 0 → ⊥
-refused four z = omega arith
-refused six z = omega arith
-
 module _ (w : TextOutput) where
   -- the steps of a write of these characters
   abbrev stepsFor : List ℕ → List ℕ → Stepped
@@ -167,9 +163,9 @@ module _ (w : TextOutput) where
       (λ e. record { spends = λ z. refl; stays = λ z. refl; stands-last = λ z. l; no-escape = o; same-mode = refl })
   ended-corners p places (stops xs m n) (h, r) l o =
       record {
-        spends = λ z. absurd (refused r z);
-        stays = λ z. absurd (refused r z);
-        stands-last = λ z. absurd (refused r z);
+        spends = λ z. absurd (omega (arith, refusal-first r, z));
+        stays = λ z. absurd (omega (arith, refusal-first r, z));
+        stands-last = λ z. absurd (omega (arith, refusal-first r, z));
         no-escape = λ c i. refl;
         same-mode = refl;
       }

@@ -1,8 +1,9 @@
 -- One step, for every mode, held count and character, written out by the state. Idea: 1A, which stands for a refused character, is in none
 -- of the sets that a state asks for; the other characters by the tests.
---     step-outside        outside an escape
---     step-after-esc      after ESC
---     step-in-sequence    after ESC `[`
+--     color-is            color escapes pass in color mode alone
+--     step-outside        a step outside an escape
+--     step-after-esc      .. after ESC
+--     step-in-sequence    .. after ESC `[`
 use Prim.Native.Nat.{ℕ, _+_}
 use mathlib.Core.Bool.{cond, _&&_, _||_}
 use mathlib.Core.List.{List, [], _∷_, _++_}
@@ -21,7 +22,6 @@ use Rattle.text_output.specs.Step.{goes, stops, groundOf, isColor, write
 use Rattle.text_output.specs.Orders.{letsColor}
 use Rattle.text_output.specs.Corners.{saidBy}
 
--- color escapes pass in color mode alone
 pub color-is : (mode : Mode) → isColor mode ≡ letsColor mode
 color-is Plain = refl
 color-is Crlf = refl

@@ -28,11 +28,7 @@ use Rattle.text_output.specs.Close.{flushIn, flushOf, closeIn, closeOf, 
 use Rattle.text_output.specs.Kept.{byItsSteps, KeptFirst, KeptBehind}
 use Rattle.text_output.specs.Orders.{added}
 use Rattle.text_output.proofs.Early.{refusal-by, bytes-by}
-use Rattle.text_output.proofs.Steps.{StepRefusal, four, six, Holds, mode-refuses}
-
-refusal-first : {n : List ℕ} → StepRefusal n → 0 < getD n 0 0
-refusal-first four = omega arith
-refusal-first six = omega arith
+use Rattle.text_output.proofs.Steps.{refusal-first, Holds, mode-refuses}
 
 -- ---- a write
 module _ (w : TextOutput) (places : List ℕ) where

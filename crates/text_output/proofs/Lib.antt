@@ -11,6 +11,7 @@ pub mod Sound
 pub mod Orders
 pub mod Escapes
 pub mod Corners
+pub mod Accepts
 pub mod Rows
 pub mod Examples
 pub mod OrderExamples

@@ -1,16 +1,19 @@
 -- What every step leaves true, the steps of a write leave true, and a refused one is refused by 4 or 6. Idea: a step leads outside an
 -- escape, or holds one character more, or changes nothing.
---     StepRefusal    the numbers of a refused step
---     Grows          the states in which one character more is held
---     Holds          what some steps leave true
---     step-holds     one step leaves it true
---     mode-holds     .. the steps of a write, in any mode
---     mode-refuses   a refused one of them is refused by 4 or 6
+--     StepRefusal      the numbers of a refused step
+--     refusal-first    its number is not 0
+--     Grows            the states in which one character more is held
+--     Holds            what some steps leave true
+--     step-holds       one step leaves it true
+--     mode-holds       .. the steps of a write, in any mode
+--     mode-refuses     a refused one of them is refused by 4 or 6
 use Prim.Native.Nat.{ℕ, _<_}
 use mathlib.Core.Bool.{true}
 use mathlib.Core.List.{List, [], _∷_}
 use mathlib.Core.Path.{_≡_, refl}
+use native.Mathlib.Omega.{arith}
 use lib.Dec.{eqb, ltb}
+use lib.ListN.{getD}
 use borrow.Author.Tests.{ltb-true}
 use Rattle.common.proofs.Kit.{split}
 use Rattle.text_output.specs.declared.Ground.{Ground}
@@ -27,6 +30,10 @@ use Rattle.text_output.specs.Write.{runOf, parts, putCrlf, moreParts, pa
 pub data StepRefusal : List ℕ → Type 0 where
   four : {reason : List ℕ} → StepRefusal (4 ∷ reason)
   six : StepRefusal (6 ∷ [])
+
+pub refusal-first : {n : List ℕ} → StepRefusal n → 0 < getD n 0 0
+refusal-first four = omega arith
+refusal-first six = omega arith
 
 -- in a mode, from a state and a held count, the state in which one character more is held
 pub data Grows (mode : Mode) : State → ℕ → State → Type 0 where
