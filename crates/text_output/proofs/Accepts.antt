@@ -13,7 +13,7 @@ use Rattle.common.proofs.Kit.{never, by, split, both-true, both}
 use Rattle.unicode.specs.Utf8.{charsOf}
 use Rattle.replace.specs.Replace.{replaceOf}
 use Rattle.check_char.specs.Check.{reasonOf, all}
-use Rattle.isolate_unassigned.specs.Isolate.{isolateOf}
+use Rattle.isolate_unassigned.specs.Meaning.{isolated}
 use Rattle.isolate_unassigned.specs.Meaning.{PutIn, none, kept as same, put}
 use Rattle.isolate_unassigned.proofs.Laws.{isolate-puts-in}
 use Rattle.text_output.specs.declared.Mode.{Mode}
@@ -84,7 +84,7 @@ module _ (mode : Mode) (p : List ℕ) where
   run-went : (m : Machine) (cs : List ℕ) → went (runOf mode p m cs) ≡ true → all ok cs ≡ true
   unfolding runOf
   run-went m cs h =
-      checked-back cs (all-put-out no-substitute (isolate-puts-in p (map checked cs)) (steps-went mode (isolateOf p (map checked cs)) m _ h))
+      checked-back cs (all-put-out no-substitute (isolate-puts-in p (map checked cs)) (steps-went mode (isolated p (map checked cs)) m _ h))
 
   -- ---- parts, in CRLF mode
   more-went : (rest : List (List ℕ)) (m : Machine) → went (moreParts mode p m rest) ≡ true → okParts rest ≡ true
