@@ -77,5 +77,5 @@ module _ (c : ℕ) (r : Checked) (says-so : reasonNumbers r ≡ checkNumbers c) 
   pub category-kept : (s : Categorize) → r ≡ Ok → 0 ∷ c ∷ reasonNumbers (s .error) ≡ categorizeOf s c
   category-kept s e = simp (accepted e)
 
-  pub category-refused : (s : Categorize) (e : BasicTextError) → r ≡ Err e → 4 ∷ 0x1a ∷ reasonNumbers r ≡ categorizeOf s c
-  category-refused s e q = simp (refused e q) (ap (λ (l : List ℕ). 4 ∷ 0x1a ∷ l) says-so)
+  pub category-refused : (s : Categorize) (e : BasicTextError) → r ≡ Err e → 4 ∷ 0x1a ∷ errorNumbers e ≡ categorizeOf s c
+  category-refused s e q = simp (refused e q) (ap (λ (l : List ℕ). 4 ∷ 0x1a ∷ l) (rw q at says-so))

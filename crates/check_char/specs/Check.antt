@@ -117,10 +117,15 @@ checkAnswerNumbers (Refused e) = 4 ∷ errorNumbers e
 abbrev pub checkAnswer : ℕ → List ℕ
 checkAnswer c = cond (isChar c) (cond (eqb (reasonOf c) 0) (0 ∷ []) (4 ∷ checkNumbers c)) (1 ∷ [])
 
--- a step of `Categorize`: 0 or 4, the character handed on, and the reason that the record keeps
+-- ---- `Categorize`
+-- `new`: no reason is kept
+abbrev pub unrefused : Categorize
+unrefused = record { error = Ok }
+
+-- a step's answer: 0 or 4, the character handed on, and the reason that the record keeps
 abbrev pub categorizedNumbers : Categorized → List ℕ
 categorizedNumbers (Char c r) = 0 ∷ c ∷ reasonNumbers (r .error)
-categorizedNumbers (Sub r) = 4 ∷ 0x1a ∷ reasonNumbers (r .error)
+categorizedNumbers (Sub c r) = 4 ∷ c ∷ reasonNumbers (r .error)
 
 -- "Each character is checked, refused ones becoming 1A"; an accepted one leaves the record as it is
 abbrev pub categorizeOf : Categorize → ℕ → List ℕ

@@ -7,10 +7,10 @@ pub use numbers::Reason;
 pub use numbers::reason_of;
 use replace::Replaced;
 use replace::replace;
+use unicode::SUB;
 use unicode::is_char;
 ghost use mathlib.Core.Path.{_≡_};
-ghost use mathlib.Core.List.{[], _∷_};
-ghost use Rattle.check_char.specs.Check.{reasonOf, threeAndCount, reasonNumbers, checkNumbers, checkAnswerNumbers, checkAnswer, categorizedNumbers, categorizeOf};
+ghost use Rattle.check_char.specs.Check.{reasonOf, threeAndCount, reasonNumbers, checkNumbers, checkAnswerNumbers, checkAnswer, unrefused, categorizedNumbers, categorizeOf};
 
 // The replacements that a reason names, as the Rust's `Box<[char]>`: how many, and three characters, 0 past that many.
 pub struct Replacements {
@@ -229,16 +229,17 @@ pub struct Categorize {
     pub error: Checked,
 }
 
-// The character as it came, or SUB, 1A, in its place; with the record after, which keeps the reason.
+// The character that is handed on, as it came or SUB, 1A, in its place; with the record after, which keeps the reason.
+// "The iterator chain with `Rc<RefCell>`: records by value whose step answers an enum."
 pub enum Categorized {
     Char(u32, Categorize),
-    Sub(Categorize),
+    Sub(u32, Categorize),
 }
 
 impl Categorize {
     // No character was refused yet.
     pub fn new() -> Self
-        ensures { λ r. ⌜ reasonNumbers (r .error) ≡ 0 ∷ [] ⌝ }
+        ensures { λ r. ⌜ r ≡ unrefused ⌝ }
     {
         Categorize { error: Checked::Ok }
     }
@@ -248,10 +249,14 @@ impl Categorize {
         ensures { λ r. ⌜ categorizedNumbers r ≡ categorizeOf self c ⌝ }
     {
         let checked = check_basic_text_char(c);
-        if let Checked::Ok = checked {
-            Categorized::Char(c, self)
-        } else {
-            Categorized::Sub(Categorize { error: checked })
+        match checked {
+            Checked::Ok => Categorized::Char(c, self),
+            Checked::Err(e) => Categorized::Sub(
+                SUB,
+                Categorize {
+                    error: Checked::Err(e),
+                },
+            ),
         }
     }
 }

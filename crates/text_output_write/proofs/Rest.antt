@@ -17,7 +17,7 @@ use Rattle.page.specs.Page.{accepted}
 use Rattle.check_char.specs.Check.{reasonOf, checkNumbers}
 use Rattle.check_char.proofs.Clean.{refused-substitute}
 use Rattle.isolate_unassigned.specs.declared.IsolateUnassigned.{IsolateUnassigned}
-use Rattle.isolate_unassigned.specs.Meaning.{joiner, isolated}
+use Rattle.isolate_unassigned.specs.Meaning.{joiner}
 use Rattle.isolate_unassigned.specs.Inner.{fresh, puts, isolateStepOf, givesOut, after, lastOwed, isolatedFrom}
 use Rattle.isolate_unassigned.proofs.Means.{isolate-means}
 use Rattle.text_output.specs.declared.Mode.{Mode}

@@ -7,6 +7,8 @@ use lib.Dec.{eqb, ltb}
 use lib.ListN.{length}
 use lib.Seq.{sets}
 use Rattle.text_utils.specs.Classes.{basicTextStart}
+use Rattle.check_char.specs.declared.Categorized.{Categorized}
+use Rattle.check_char.specs.declared.Categorized.the-variants.{Char, Sub}
 use Rattle.check_char.specs.Check.{errorNumbers, checkNumbers}
 use Rattle.isolate_unassigned.specs.declared.IsolateUnassigned.{IsolateUnassigned}
 use Rattle.isolate_unassigned.specs.Inner.{fresh, isolateStepOf, givesOut, after, lastOwed}
@@ -73,6 +75,11 @@ progress (Stopped w stop) escape places =
     record { going = false; at = w .at; machine = machineAt w escape; refusal = stopNumbers stop; places = places }
 
 -- ---- a write, character by character
+-- the character that an answer of `Categorize` hands on
+abbrev pub handedOn : Categorized → ℕ
+handedOn (Char c r) = c
+handedOn (Sub c r) = c
+
 -- whether 0A ends a part
 abbrev pub isCrlf : Mode → Bool
 isCrlf Plain = false

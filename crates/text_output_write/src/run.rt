@@ -6,31 +6,33 @@ use super::store::Pushed;
 use super::store::Stop;
 use super::store::push;
 use check_char::BasicTextError;
+use check_char::Categorize;
+use check_char::Categorized;
 use check_char::Checked;
-use check_char::check_basic_text_char;
 use isolate_unassigned::IsolateUnassigned;
 use isolate_unassigned::Isolated;
 use text_output::Ground;
 use text_output::Mode;
 use text_output::State;
 use unicode::CGJ;
-use unicode::SUB;
 use unicode::Utf8Step;
 use unicode::utf8_step;
 ghost use mathlib.Core.Path.{_≡_};
-ghost use mathlib.Core.Bool.{true};
+ghost use mathlib.Core.Bool.{true, false};
 ghost use mathlib.Core.List.{[], _∷_, _++_};
 ghost use Prim.Native.Nat.{_+_, _≤_};
+ghost use lib.Dec.{eqb};
 ghost use lib.ListN.{length};
 ghost use Rattle.unicode.specs.Utf8.{charsOf};
 ghost use Rattle.page.specs.Page.{accepted};
-ghost use Rattle.check_char.specs.Check.{errorNumbers, reasonNumbers, checkNumbers};
+ghost use Rattle.check_char.specs.declared.Checked.the-variants.{Ok};
+ghost use Rattle.check_char.specs.Check.{errorNumbers, reasonNumbers};
 ghost use Rattle.isolate_unassigned.specs.Meaning.{joiner};
 ghost use Rattle.isolate_unassigned.specs.Inner.{puts, isolateStepOf, after, lastOwed};
 ghost use Rattle.text_output.specs.Writer.{sound};
-ghost use Rattle.text_output.specs.Step.{refusedIn, andThen, writeStepOf, stepsOf};
-ghost use Rattle.text_output.specs.Write.{checked, putCrlf, runIn};
-ghost use Rattle.text_output_write.specs.Inner.{machineAt, pushed, stored, stopNumbers, progress, turnOf, isolatorAfter};
+ghost use Rattle.text_output.specs.Step.{refusedIn, andThen, stepsOf};
+ghost use Rattle.text_output.specs.Write.{putCrlf, runIn};
+ghost use Rattle.text_output_write.specs.Inner.{machineAt, pushed, stored, stopNumbers, progress, handedOn, turnOf, isolatorAfter};
 
 // ---- before a character
 // Whether the isolator puts 34F before a character, and the isolator after it.
@@ -86,66 +88,77 @@ fn stop_in(state: State, e: BasicTextError) -> Stop
     }
 }
 
-// The character, or 1A in the place of a refused one. Inner: asks for what the check found.
-fn categorized(c: u32, found: Checked) -> u32
-    requires { ⌜ reasonNumbers found ≡ checkNumbers c ⌝ }
-    ensures { λ r. ⌜ r ≡ checked c ⌝ }
+// The character that `Categorize` hands on. Total.
+fn handed_on(found: Categorized) -> u32
+    ensures { λ r. ⌜ r ≡ handedOn found ⌝ }
 {
     match found {
-        Checked::Ok => c,
-        Checked::Err(_) => SUB,
+        Categorized::Char(c, _) => c,
+        Categorized::Sub(c, _) => c,
     }
 }
 
-// The character stepped, or 1A, which stops. Inner, as `push`, and asks for what the check found.
-fn push_categorized(
-    mode: Mode,
-    w: Place,
-    c: u32,
-    found: Checked,
-    escape: &mut [u32; 64],
-    out: &mut [u32],
-) -> Pushed
-    requires told { ⌜ reasonNumbers found ≡ checkNumbers c ⌝ }
-    requires sound { ⌜ sound (machineAt w (now escape)) ≡ true ⌝ }
-    requires room { ⌜ w .at + length (pushed (writeStepOf mode (machineAt w (now escape)) (checkNumbers c) (checked c))) ≤ length (now out) ⌝ }
-    ensures { λ r. ⌜
-        progress r (now (escape .exit)) (now (out .exit))
-        ≡ stored (w .at) (now (out .entry)) (writeStepOf mode (machineAt w (now (escape .entry))) (checkNumbers c) (checked c))
-        ⌝ }
+// The reason that the record keeps. Inner: asks for one, which stands behind every 1A: the Rust's `unwrap`.
+fn reason_in(kept: Categorize) -> BasicTextError
+    requires { ⌜ (kept .error ≡ Ok → ⊥) ⌝ }
+    ensures { λ r. ⌜ errorNumbers r ≡ reasonNumbers (kept .error) ⌝ }
 {
-    match found {
-        Checked::Ok => push(mode, w, c, escape, out),
-        Checked::Err(e) => {
-            let state = w.state;
-            Pushed::Stopped(w, stop_in(state, e))
-        }
+    let error = kept.error;
+    match error {
+        Checked::Err(e) => e,
+        Checked::Ok => BasicTextError::UnrecognizedEscape,
     }
 }
 
-// 34F, where it is put, and then the character. Inner, as `push_categorized`.
+// 34F, where it is put, and then a character that the check accepts. Inner, as `push`.
 fn push_isolated(
     mode: Mode,
     w: Place,
     put: bool,
     c: u32,
-    found: Checked,
     escape: &mut [u32; 64],
     out: &mut [u32],
 ) -> Pushed
-    requires told { ⌜ reasonNumbers found ≡ checkNumbers c ⌝ }
+    requires sub { ⌜ eqb c 0x1A ≡ false ⌝ }
     requires sound { ⌜ sound (machineAt w (now escape)) ≡ true ⌝ }
-    requires room { ⌜
-        w .at + length (pushed (stepsOf mode (machineAt w (now escape)) (checkNumbers c) (joiner put ++ checked c ∷ []))) ≤ length (now out)
-        ⌝ }
+    requires room { ⌜ w .at + length (pushed (stepsOf mode (machineAt w (now escape)) [] (joiner put ++ c ∷ []))) ≤ length (now out) ⌝ }
     ensures { λ r. ⌜
         progress r (now (escape .exit)) (now (out .exit))
-        ≡ stored (w .at) (now (out .entry)) (stepsOf mode (machineAt w (now (escape .entry))) (checkNumbers c) (joiner put ++ checked c ∷ []))
+        ≡ stored (w .at) (now (out .entry)) (stepsOf mode (machineAt w (now (escape .entry))) [] (joiner put ++ c ∷ []))
         ⌝ }
 {
     let before = push_joiner(mode, w, put, escape, out);
     match before {
-        Pushed::On(next) => push_categorized(mode, next, c, found, escape, out),
+        Pushed::On(next) => push(mode, next, c, escape, out),
+        Pushed::Stopped(_, _) => before,
+    }
+}
+
+// 34F, where it is put, and then 1A, which stops. Inner, as `push`, and asks for a kept reason.
+fn stop_isolated(
+    mode: Mode,
+    w: Place,
+    put: bool,
+    kept: Categorize,
+    escape: &mut [u32; 64],
+    out: &mut [u32],
+) -> Pushed
+    requires kept { ⌜ (kept .error ≡ Ok → ⊥) ⌝ }
+    requires sound { ⌜ sound (machineAt w (now escape)) ≡ true ⌝ }
+    requires room { ⌜
+        w .at + length (pushed (stepsOf mode (machineAt w (now escape)) (reasonNumbers (kept .error)) (joiner put ++ 0x1A ∷ []))) ≤ length (now out)
+        ⌝ }
+    ensures { λ r. ⌜
+        progress r (now (escape .exit)) (now (out .exit))
+        ≡ stored (w .at) (now (out .entry)) (stepsOf mode (machineAt w (now (escape .entry))) (reasonNumbers (kept .error)) (joiner put ++ 0x1A ∷ []))
+        ⌝ }
+{
+    let before = push_joiner(mode, w, put, escape, out);
+    match before {
+        Pushed::On(next) => {
+            let state = next.state;
+            Pushed::Stopped(next, stop_in(state, reason_in(kept)))
+        }
         Pushed::Stopped(_, _) => before,
     }
 }
@@ -210,12 +223,18 @@ pub fn turn(
             isolator: IsolateUnassigned::new(),
         }
     } else {
-        let found = check_basic_text_char(c);
-        let ahead = look_ahead(page, isolator, categorized(c, found));
+        let found = Categorize::new().step(c);
+        let ahead = look_ahead(page, isolator, handed_on(found));
         let next = ahead.isolator;
-        Turned {
-            pushed: push_isolated(mode, w, ahead.put, c, found, escape, out),
-            isolator: next,
+        match found {
+            Categorized::Char(same, _) => Turned {
+                pushed: push_isolated(mode, w, ahead.put, same, escape, out),
+                isolator: next,
+            },
+            Categorized::Sub(_, kept) => Turned {
+                pushed: stop_isolated(mode, w, ahead.put, kept, escape, out),
+                isolator: next,
+            },
         }
     }
 }
