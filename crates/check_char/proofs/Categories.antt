@@ -1,7 +1,7 @@
 -- The step of `Categorize`, in rows and for every answer. The reasons of the rows are the answers of the comparison's oracle to the check,
 -- which is the original Rust; 1A, and that the reason is kept, are `record_error` of internals/src/categorize.rs.
---     categories       rows of two steps, one behind the other
---     category-back    an answer read back from its numbers, by what reads a reason back: no two answers list alike
+--     categories          rows of two steps, one behind the other
+--     categorized-back    an answer read back from its numbers: no two list alike
 use Prim.Native.Nat.{ℕ}
 use mathlib.Core.Bool.{cond}
 use mathlib.Core.List.{List, [], _∷_, map}
@@ -15,7 +15,8 @@ use Rattle.check_char.specs.declared.Checked.the-variants.{Ok, Err}
 use Rattle.check_char.specs.declared.Categorize.{Categorize}
 use Rattle.check_char.specs.declared.Categorized.{Categorized}
 use Rattle.check_char.specs.declared.Categorized.the-variants.{Char, Sub}
-use Rattle.check_char.specs.Check.{reasonOf, reasonNumbers, checkNumbers, categorizedNumbers, categorizeOf}
+use Rattle.check_char.specs.Check.{reasonOf, checkNumbers, categorizedNumbers, categorizeOf}
+use Rattle.check_char.proofs.Back.{checkedOf, checked-back}
 
 -- a record that keeps no reason, and one that keeps the reason for 7
 abbrev new : Categorize
@@ -46,12 +47,11 @@ unfolding reasonOf checkNumbers replaceOf
 categories = refl
 
 -- ---- read back
-abbrev categorizedOf : (List ℕ → Checked) → List ℕ → Categorized
-categorizedOf back ns =
-    let r : Categorize = record { error = back (drop 2 ns) } in
+abbrev pub categorizedOf : List ℕ → Categorized
+categorizedOf ns =
+    let r : Categorize = record { error = checkedOf (drop 2 ns) } in
     cond (eqb (getD ns 0 0) 0) (Char (getD ns 1 0) r) (Sub (getD ns 1 0) r)
 
-pub category-back : (back : List ℕ → Checked) → ((e : Checked) → back (reasonNumbers e) ≡ e) → (a : Categorized) →
-    categorizedOf back (categorizedNumbers a) ≡ a
-category-back back h (Char c r) = ap (λ (e : Checked). Char c (record { error = e })) (h (r .error))
-category-back back h (Sub c r) = ap (λ (e : Checked). Sub c (record { error = e })) (h (r .error))
+pub categorized-back : (a : Categorized) → categorizedOf (categorizedNumbers a) ≡ a
+categorized-back (Char c r) = ap (λ (e : Checked). Char c (record { error = e })) (checked-back (r .error))
+categorized-back (Sub c r) = ap (λ (e : Checked). Sub c (record { error = e })) (checked-back (r .error))
