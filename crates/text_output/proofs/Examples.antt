@@ -314,6 +314,16 @@ table =
           write 200 (0x0D ∷ []) gives told (4 ∷ 2 ∷ 0x0D ∷ []) (1 ∷ 0 ∷ 0 ∷ 0 ∷ []) [] ∷
           [];
     }
+    -- CRLF: the 34F of one part is owed to no other, and serves no other
+    ∷ record {
+      mode = Crlf;
+      page = 0 ∷ 1 ∷ 0 ∷ 0x377 ∷ [];
+      calls =
+          write 200 (0x378 ∷ 0x0A ∷ 0x61 ∷ 0x0A ∷ []) gives told (0 ∷ 8 ∷ []) (0 ∷ 0 ∷ 0 ∷ 0 ∷ []) (0x34F ∷ 0x378 ∷ 0x34F ∷ 0x0D ∷ 0x0A ∷ 0x61 ∷ 0x0D ∷ 0x0A ∷ []) ∷
+          write 200 (0x34F ∷ 0x0A ∷ 0x378 ∷ 0x0A ∷ []) gives told (0 ∷ 8 ∷ []) (0 ∷ 0 ∷ 0 ∷ 0 ∷ []) (0x34F ∷ 0x0D ∷ 0x0A ∷ 0x34F ∷ 0x378 ∷ 0x34F ∷ 0x0D ∷ 0x0A ∷ []) ∷
+          close gives told [] (0 ∷ 0 ∷ 1 ∷ 0 ∷ []) [] ∷
+          [];
+    }
     -- CRLF: each part is isolated alone
     ∷ record {
       mode = Crlf;
