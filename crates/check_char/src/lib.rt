@@ -7,6 +7,8 @@ pub use numbers::Reason;
 pub use numbers::reason_of;
 use replace::Replaced;
 use replace::replace;
+use unicode::BOM;
+use unicode::ORC;
 use unicode::SUB;
 use unicode::is_char;
 ghost use mathlib.Core.Path.{_≡_};
@@ -145,8 +147,8 @@ fn reason(c: u32) -> u32
         | 0xffffe..=0xfffff
         | 0x10fffe..=0x10ffff
         | 0xfdd0..=0xfdef => 9,
-        0xfffc => 12,
-        0xfeff => 11,
+        ORC => 12,
+        BOM => 11,
         _ => 0,
     }
 }

@@ -1,6 +1,14 @@
 // What a character is replaced by on input, so that text that holds it can still be read. Ports `replace` of
 // internals/src/replace.rs, arm by arm; what the Rust pushes to a queue is the answer here.
 use common::NOT_A_CHAR;
+use unicode::BOM;
+use unicode::FF;
+use unicode::LS;
+use unicode::NEL;
+use unicode::ORC;
+use unicode::PS;
+use unicode::REPL;
+use unicode::WJ;
 use unicode::is_char;
 ghost use mathlib.Core.Path.{_≡_};
 ghost use Rattle.replace.specs.Replace.{replaceOf, replacementNumbers, replacementOf};
@@ -18,7 +26,7 @@ pub fn replace(c: u32) -> Replaced
     ensures { λ r. ⌜ r ≡ replaceOf c ⌝ }
 {
     match c {
-        0xfeff => Replaced::One(0x2060),
+        BOM => Replaced::One(WJ),
         0x149 => Replaced::Two(0x2bc, 0x6e),
         0x673 => Replaced::Two(0x627, 0x65f),
         0xf77 => Replaced::Two(0xfb2, 0xf81),
@@ -28,7 +36,7 @@ pub fn replace(c: u32) -> Replaced
         // Discouraged characters
         0x2df5 => Replaced::Two(0x2ded, 0x2dee),
         0x111c4 => Replaced::Two(0x1118f, 0x11180),
-        0x2028 | 0x2029 => Replaced::One(0x20),
+        LS | PS => Replaced::One(0x20),
         // Latin Ligatures
         0xfb00 => Replaced::Two(0x66, 0x66),
         0xfb01 => Replaced::Two(0x66, 0x69),
@@ -37,7 +45,7 @@ pub fn replace(c: u32) -> Replaced
         0xfb04 => Replaced::Three(0x66, 0x66, 0x6c),
         0xfb05 => Replaced::Two(0x17f, 0x74),
         0xfb06 => Replaced::Two(0x73, 0x74),
-        0xc | 0x85 => Replaced::One(0x20),
+        FF | NEL => Replaced::One(0x20),
         // Control codes: C0 (except LF, tab, FF, and ESC), DEL, C1 (except NEL)
         0x0..=0x8
         | 0xb
@@ -98,7 +106,7 @@ pub fn replace(c: u32) -> Replaced
         | 0x1d551
         |
         // Object Replacement Character
-        0xfffc
+        ORC
         |
         // Khmer characters erroneously invented by Unicode.
         0x17b4
@@ -140,7 +148,7 @@ pub fn replace(c: u32) -> Replaced
         | 0xefffe..=0xeffff
         | 0xffffe..=0xfffff
         | 0x10fffe..=0x10ffff
-        | 0xfdd0..=0xfdef => Replaced::One(0xfffd),
+        | 0xfdd0..=0xfdef => Replaced::One(REPL),
         _ => Replaced::One(c),
     }
 }
