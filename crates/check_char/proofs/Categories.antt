@@ -35,6 +35,7 @@ rows =
     ∷ ((kept, 0x61), 0 ∷ 0x61 ∷ 2 ∷ 7 ∷ [])
     -- a refused one becomes 1A, itself too, and the record keeps its reason, the last one
     ∷ ((new, 0x07), 4 ∷ 0x1A ∷ 2 ∷ 7 ∷ [])
+    ∷ ((new, 0xFFFE), 4 ∷ 0x1A ∷ 9 ∷ [])
     ∷ ((new, 0x1A), 4 ∷ 0x1A ∷ 2 ∷ 0x1A ∷ [])
     ∷ ((kept, 0xFEFF), 4 ∷ 0x1A ∷ 11 ∷ [])
     ∷ ((kept, 0x2126), 4 ∷ 0x1A ∷ 16 ∷ 0x2126 ∷ 1 ∷ 0x2126 ∷ 0 ∷ 0 ∷ [])

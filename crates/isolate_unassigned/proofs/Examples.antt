@@ -81,6 +81,9 @@ table =
     ∷ isolating page 0 (0x110000 ∷ []) (refused-by 1)
     -- a page of two ranges
     ∷ isolating ranges 7 (0x3FF ∷ 0x500 ∷ 0x501 ∷ []) (gives (0x34F ∷ 0x3FF ∷ 0x34F ∷ 0x500 ∷ 0x34F ∷ 0x501 ∷ 0x34F ∷ []))
+    -- a page by which 0A and 34F alone are assigned
+    ∷ isolating (0 ∷ 2 ∷ 0xA ∷ 0x34F ∷ 0xA ∷ 0x34F ∷ []) 9 (0x61 ∷ 0x0A ∷ 0x20 ∷ 0xE9 ∷ [])
+    (gives (0x34F ∷ 0x61 ∷ 0x34F ∷ 0x0A ∷ 0x34F ∷ 0x20 ∷ 0x34F ∷ 0xE9 ∷ 0x34F ∷ []))
     -- a wrong page (2), before no character (1) and too few places (8)
     ∷ isolating wrong 3 (0x61 ∷ []) (refused-by 2)
     ∷ isolating wrong 3 (0xD800 ∷ []) (refused-by 2)

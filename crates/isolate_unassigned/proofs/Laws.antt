@@ -6,16 +6,18 @@
 --     isolate-guarded     by an accepted page, each unassigned character of the result has 34F before it
 --     isolate-of-guarded  a run of which that holds is left as it is
 --     isolate-twice       so isolating a second time changes nothing
+--     to-isolate-is       which characters are isolated, written out
 use Prim.Native.Nat.{ℕ, _+_, _*_, _≤_}
 use mathlib.Core.Path.{_≡_, refl, sym, ap}
 use mathlib.Core.Bool.{Bool, true, false, not, _&&_, _||_, or-true}
 use mathlib.Core.List.{List, [], _∷_, _++_}
 use native.Mathlib.Omega.{arith}
-use lib.Dec.{eqb}
+use lib.Dec.{eqb, leb}
 use lib.ListN.{length, length-append}
 use Rattle.unicode.specs.Chars.{isChar, areChars}
 use Rattle.common.proofs.Kit.{never, split, both-true, both}
-use Rattle.page.specs.Page.{accepted}
+use Rattle.page.specs.Page.{accepted, assigned}
+use Rattle.text_utils.proofs.Classes.{private-use}
 use Rattle.page.proofs.PageLaws.{facts-of-accepted}
 use Rattle.isolate_unassigned.specs.Meaning.{toIsolate, there, gotBefore, getsAfter, joiner, isolatedAfter, isolated, PutIn, none, kept, put, guarded}
 use Rattle.isolate_unassigned.specs.Isolate.{placesForRun}
@@ -115,3 +117,10 @@ isolate-of-guarded p cs h = after-of-guarded p cs [] refl h
 
 pub isolate-twice : (p cs : List ℕ) → accepted p ≡ true → isolated p (isolated p cs) ≡ isolated p cs
 isolate-twice p cs a = isolate-of-guarded p (isolated p cs) (isolate-guarded p cs a)
+
+-- "an unassigned character outside private use gets 34F before it": no other character is spared, by any page
+pub to-isolate-is : (p : List ℕ) (c : ℕ) →
+    toIsolate p c
+    ≡ not (assigned p c || ((leb 0xE000 c && leb c 0xF8FF) || ((leb 0xF0000 c && leb c 0xFFFFD) || (leb 0x100000 c && leb c 0x10FFFD))))
+unfolding toIsolate
+to-isolate-is p c = rw (private-use c)

@@ -1,12 +1,13 @@
 -- The entry that isolates a run of characters: what refuses it, what it answers and what it leaves in the lent places (document 01,
 -- "Leaves", first item). What a run isolates to is `isolated` (specs/Meaning.antt).
-use mathlib.Core.Bool.{not, cond}
+use mathlib.Core.Bool.{true, not, cond}
+use mathlib.Core.Path.{_≡_}
 use mathlib.Core.List.{List, [], _∷_}
 use Prim.Native.Nat.{ℕ, zero, suc, _+_, _*_}
-use lib.Dec.{eqb}
-use lib.ListN.{length}
+use lib.Dec.{eqb, ltb}
+use lib.ListN.{length, drop}
 use lib.Seq.{sets}
-use Rattle.common.specs.Answers.{thenRoom}
+use Rattle.common.specs.Answers.{refusalIn, writtenIn, wroteIn, thenRoom}
 use Rattle.unicode.specs.Chars.{areChars}
 use Rattle.page.specs.Page.{accepted}
 use Rattle.isolate_unassigned.specs.Meaning.{isolated}
@@ -30,3 +31,13 @@ isolateAnswer p cs out =
 -- "1, 2, 7, 8, 9, 10 .. change nothing."; "Places past the filled .. ones are unchanged"
 abbrev pub isolatePlaces : List ℕ → List ℕ → List ℕ → List ℕ
 isolatePlaces p cs out = cond (eqb (isolateRefusal p cs out) 0) (sets out 0 (isolated p cs)) out
+
+-- ---- what an isolation leaves
+-- of the page, the run and the places at entry, and what the entry answered and left
+pub record IsolateLeaves (p cs out answer places : List ℕ) : Type 0 where
+  -- "1, 2, 7, 8, 9, 10 .. change nothing."
+  pub nothing : ltb 0 (refusalIn answer) ≡ true → places ≡ out
+  pub number : eqb (refusalIn answer) 0 ≡ true → answer ≡ 0 ∷ length (isolated p cs) ∷ []
+  pub wrote : eqb (refusalIn answer) 0 ≡ true → wroteIn answer places ≡ isolated p cs
+  -- "Places past the filled .. ones are unchanged"
+  pub past : drop (writtenIn answer) places ≡ drop (writtenIn answer) out

@@ -1,15 +1,19 @@
 -- What the Rust's `replace` gives, by computing.
 --     everywhere    at every character: the table and the runs of the Rust's answers say the same
+--     answered      so the entry, where it does not refuse, answers what the Rust gives
 --     examples      the entry's whole answers at the first and the last character of each run, and of what lies between, as the oracle of
 --                   the comparison gives them
 use Prim.Native.Nat.{ℕ, _<_}
-use mathlib.Core.Path.{_≡_, refl}
+use mathlib.Core.Path.{_≡_, refl, ap}
+use mathlib.Core.Bool.{true}
 use mathlib.Core.List.{List, [], _∷_, _++_, map}
 use native.Mathlib.Omega.{arith}
 use Rattle.unicode.specs.Chars.{isChar}
+use Rattle.unicode.proofs.Rows.{char-lt}
 use Rattle.replace.specs.declared.Replaced.the-variants.{One}
 use Rattle.replace.specs.Table.{lookup}
-use Rattle.replace.specs.Replace.{replacements, replaceOf, replacementOf}
+use Rattle.replace.specs.declared.Replaced.{Replaced}
+use Rattle.replace.specs.Replace.{chars, replacements, replaceOf, replacementOf}
 use Rattle.replace.specs.Runs.{replacementRuns}
 use Rattle.replace.proofs.Rows.{_until_, here}
 use Rattle.replace.proofs.Same.{same-replaced, same-replaced→eq}
@@ -19,6 +23,10 @@ use Rattle.replace.proofs.Spans.{alike-at}
 pub everywhere : (c : ℕ) → c < 0x110000 → replaceOf c ≡ lookup replacementRuns (One c) c
 unfolding replaceOf
 everywhere c h = alike-at same-replaced same-replaced→eq replacements replacementRuns (One c) (0 until 0x110000 ∷ []) tt (here {x = 0} (omega arith) h)
+
+-- so the entry, where it does not refuse, answers what the Rust gives
+pub answered : (c : ℕ) → isChar c ≡ true → replacementOf c ≡ 0 ∷ chars (lookup replacementRuns (One c) c)
+answered c h = rw h (ap (λ (r : Replaced). 0 ∷ chars r) (everywhere c (char-lt c h)))
 
 -- a number, and the answer's numbers
 abbrev Example : Type 0

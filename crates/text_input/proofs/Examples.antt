@@ -170,6 +170,8 @@ chunkTable =
     -- chance to drop U+FEFF"
     ∷ row (scan neither (0xFEFF ∷ 0xFEFF ∷ 0x61 ∷ []) ∷ finish true ∷ [])
     ((0 ∷ 0x2060 ∷ 0x61 ∷ []) ∷ (0 ∷ 0x0A ∷ []) ∷ [])
+    ∷ row (scan neither (0xFFFE ∷ 0x61 ∷ []) ∷ finish true ∷ [])
+    ((0 ∷ 0xFFFD ∷ 0x61 ∷ []) ∷ (0 ∷ 0x0A ∷ []) ∷ [])
     ∷ row (scan neither (0x61 ∷ []) ∷ scan neither (0xFEFF ∷ []) ∷ finish true ∷ [])
     ((0 ∷ 0x61 ∷ []) ∷ (0 ∷ 0x2060 ∷ []) ∷ (0 ∷ 0x0A ∷ []) ∷ [])
     ∷ row (scan neither [] ∷ scan neither (0xFEFF ∷ 0x61 ∷ []) ∷ finish true ∷ [])
@@ -241,6 +243,17 @@ chunkTable =
     ((0 ∷ 0xFFFD ∷ 0x61 ∷ []) ∷ (0 ∷ 0x0A ∷ []) ∷ [])
     ∷ row (scan neither (0x1B ∷ 0x1B ∷ 0x63 ∷ 0x61 ∷ []) ∷ finish true ∷ [])
     ((0 ∷ 0x61 ∷ []) ∷ (0 ∷ 0x0A ∷ []) ∷ [])
+    -- "`[` `[` and at most one character up to 7F": 1B, 0A and 0D are such characters too
+    ∷ row (scan neither (0x1B ∷ 0x5B ∷ 0x5B ∷ 0x1B ∷ 0x63 ∷ 0x61 ∷ []) ∷ finish true ∷ [])
+    ((0 ∷ 0x63 ∷ 0x61 ∷ []) ∷ (0 ∷ 0x0A ∷ []) ∷ [])
+    ∷ row (scan neither (0x1B ∷ 0x5B ∷ 0x5B ∷ 0x0A ∷ 0x1B ∷ 0x5B ∷ 0x5B ∷ 0x0D ∷ 0x0A ∷ []) ∷ finish true ∷ [])
+    ((0 ∷ 0x0A ∷ []) ∷ (0 ∷ []) ∷ [])
+    -- ESC backslash is one of 40..7E; ESC with 20..2F is none of these
+    ∷ row (scan neither (0x1B ∷ 0x5C ∷ 0x1B ∷ 0x28 ∷ 0x42 ∷ []) ∷ finish true ∷ [])
+    ((0 ∷ 0x28 ∷ 0x42 ∷ []) ∷ (0 ∷ 0x0A ∷ []) ∷ [])
+    -- no option makes another control a line end
+    ∷ row (scan either (0x0B ∷ 0x1C ∷ 0x1D ∷ 0x1E ∷ 0x84 ∷ 0x86 ∷ []) ∷ finish true ∷ [])
+    ((0 ∷ 0xFFFD ∷ 0xFFFD ∷ 0xFFFD ∷ 0xFFFD ∷ 0xFFFD ∷ 0xFFFD ∷ []) ∷ (0 ∷ 0x0A ∷ []) ∷ [])
     -- "An empty image gets no 34F."
     ∷ row (scan neither (0x1B ∷ 0x63 ∷ []) ∷ finish true ∷ [])
     ((0 ∷ []) ∷ (0 ∷ 0x0A ∷ []) ∷ [])

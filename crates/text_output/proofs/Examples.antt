@@ -447,6 +447,23 @@ table =
           flush gives told [] (0 ∷ 0 ∷ 1 ∷ 0 ∷ []) [] ∷
           [];
     }
+    -- color: what follows the end of an escape that was in progress is isolated
+    ∷ record {
+      mode = Color;
+      page = 0 ∷ 1 ∷ 0 ∷ 0x377 ∷ [];
+      calls =
+          write 200 (0x1B ∷ 0x5B ∷ []) gives told (0 ∷ 0 ∷ []) (0 ∷ 4 ∷ 0 ∷ 2 ∷ []) [] ∷
+          write 200 (0x6D ∷ 0x378 ∷ []) gives told (0 ∷ 6 ∷ []) (0 ∷ 2 ∷ 0 ∷ 0 ∷ []) (0x1B ∷ 0x5B ∷ 0x6D ∷ 0x34F ∷ 0x378 ∷ 0x34F ∷ []) ∷
+          [];
+    }
+    -- CRLF: the last part, which no 0A ends, is isolated
+    ∷ record {
+      mode = Crlf;
+      page = 0 ∷ 1 ∷ 0 ∷ 0x377 ∷ [];
+      calls =
+          write 200 (0x61 ∷ 0x0A ∷ 0x378 ∷ []) gives told (0 ∷ 6 ∷ []) (0 ∷ 2 ∷ 0 ∷ 0 ∷ []) (0x61 ∷ 0x0D ∷ 0x0A ∷ 0x34F ∷ 0x378 ∷ 0x34F ∷ []) ∷
+          [];
+    }
     ∷ []
 
 pub examples : map computed table ≡ map expected table

@@ -207,6 +207,14 @@ table =
           write 200 (0x6D ∷ []) gives told (0 ∷ 3 ∷ []) (0 ∷ 2 ∷ 0 ∷ 0 ∷ []) (0x1B ∷ 0x5B ∷ 0x6D ∷ []) ∷
           [];
     }
+    -- CRLF: a refused character's part is kept up to it
+    ∷ record {
+      mode = Crlf;
+      page = 0 ∷ 1 ∷ 0 ∷ 0x377 ∷ [];
+      calls =
+          write 200 (0x61 ∷ 0x0A ∷ 0x62 ∷ 0x7F ∷ []) gives told (4 ∷ 2 ∷ 0x7F ∷ []) (1 ∷ 0 ∷ 1 ∷ 0 ∷ []) (0x61 ∷ 0x0D ∷ 0x0A ∷ 0x62 ∷ []) ∷
+          [];
+    }
     ∷ []
 
 pub kept-examples : map computed table ≡ map expected table

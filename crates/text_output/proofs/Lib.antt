@@ -12,6 +12,8 @@ pub mod Orders
 pub mod Escapes
 pub mod Corners
 pub mod Accepts
+pub mod Whole
+pub mod Lines
 pub mod Rows
 pub mod Examples
 pub mod OrderExamples
