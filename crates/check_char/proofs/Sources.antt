@@ -16,7 +16,7 @@ use lib.Dec.{T, eqb}
 use Rattle.replace.specs.Table.{Span, _to_, one, inSpans}
 use Rattle.replace.specs.Replace.{nonchars}
 use Rattle.replace.specs.Nonchars.{nonCharacter}
-use Rattle.replace.proofs.Rows.{Piece, _until_, At, here}
+use Rattle.replace.proofs.Rows.{Piece, _until_, here}
 use Rattle.replace.proofs.Spans.{agree, agrees, spans-agree}
 use Rattle.replace.proofs.Nonchars.{nonchars-are}
 use Rattle.check_char.specs.Check.{excepted, refusals, reasonOf, clean}

@@ -2,8 +2,8 @@
 --     first-by     the number found, where it is not 0, has a condition that holds, and none before it does
 --     by-first     a number that has one is the number found
 use Prim.Native.Nat.{ℕ, _<_}
-use mathlib.Core.Bool.{Bool, true, false}
-use mathlib.Core.List.{List, [], _∷_}
+use mathlib.Core.Bool.{true, false}
+use mathlib.Core.List.{List, _∷_}
 use mathlib.Core.Path.{_≡_, refl}
 use Rattle.common.specs.Order.{Refusal, _when_, firstOf, RefusedBy, here, further}
 

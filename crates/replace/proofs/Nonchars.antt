@@ -13,7 +13,7 @@ use Rattle.replace.specs.Table.{Span, _to_, has, inSpans}
 use Rattle.replace.specs.Replace.{nonchars}
 use Rattle.replace.specs.Nonchars.{nonCharacter}
 use Rattle.replace.proofs.Rows.{and-l, and-r, and-i, or-l, or-r}
-use Rattle.replace.proofs.Spans.{or-cases, same-truth}
+use Rattle.replace.proofs.Spans.{or-parts, same-truth}
 
 -- the last two of plane k
 abbrev lastTwo : ℕ → Span
@@ -45,7 +45,7 @@ module _ (c : ℕ) where
   of-rule : (k n : ℕ) → T (inSpans (planes k n ++ others) c) → T (leb 0xfffe (c % 0x10000)) ⊎ T (inSpans others c)
   of-rule k zero t = inr t
   of-rule k (suc n) t =
-      elim (or-cases (has (lastTwo k) c) (inSpans (planes (suc k) n ++ others) c) t) [
+      elim (or-parts (has (lastTwo k) c) (inSpans (planes (suc k) n ++ others) c) t) [
         | inl h ↦ inl (last-two k h)
         | inr h ↦ of-rule (suc k) n h
       ]
@@ -75,7 +75,7 @@ module _ (c : ℕ) where
       ap (λ (l : List Span). inSpans l c) by-planes ∙
       same-truth (inSpans (planes 0 17 ++ others) c) (nonCharacter c) (λ t. into (of-rule 0 17 t))
       (λ t.
-      elim (or-cases (leb 0xfffe (c % 0x10000)) between t) [
+      elim (or-parts (leb 0xfffe (c % 0x10000)) between t) [
         | inl l ↦ from 0 17 (omega arith) (omega arith) (leb→le 0xfffe (c % 0x10000) l)
         | inr r ↦ behind 0 17 (or-l between false r)
       ])

@@ -3,7 +3,7 @@
 --     spans-agree  the same of a third list of spans
 --     alike-at     two tables of one kind, with one default
 --     in-each      a list of spans as a table
---     or-cases     the parts of an `||`
+--     or-parts     the parts of an `||`
 --     same-truth   two tests that imply each other
 use Prim.Native.Nat.{ℕ}
 use mathlib.Core.Path.{_≡_, refl, sym, _∙_}
@@ -14,9 +14,9 @@ use lib.Dec.{T}
 use Rattle.replace.specs.Table.{Span, Row, _gives_, has, inSpans, lookup, each}
 use Rattle.replace.proofs.Rows.{Piece, At, null, not-null, passes, finds, other, only, finds-one, clear, finds-none}
 
-pub or-cases : (a b : Bool) → T (a || b) → T a ⊎ T b
-or-cases true b t = inl tt
-or-cases false b t = inr t
+pub or-parts : (a b : Bool) → T (a || b) → T a ⊎ T b
+or-parts true b t = inl tt
+or-parts false b t = inr t
 
 pub same-truth : (a b : Bool) → (T a → T b) → (T b → T a) → a ≡ b
 same-truth true true f g = refl

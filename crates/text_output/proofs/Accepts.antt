@@ -13,8 +13,7 @@ use Rattle.common.proofs.Kit.{never, by, split, both-true, both}
 use Rattle.unicode.specs.Utf8.{charsOf}
 use Rattle.replace.specs.Replace.{replaceOf}
 use Rattle.check_char.specs.Check.{reasonOf, all}
-use Rattle.isolate_unassigned.specs.Meaning.{isolated}
-use Rattle.isolate_unassigned.specs.Meaning.{PutIn, none, kept as same, put}
+use Rattle.isolate_unassigned.specs.Meaning.{isolated, PutIn, none, kept as same, put}
 use Rattle.isolate_unassigned.proofs.Laws.{isolate-puts-in}
 use Rattle.text_output.specs.declared.Mode.{Mode}
 use Rattle.text_output.specs.declared.Mode.the-variants.{Plain, Crlf, Color}

@@ -6,6 +6,7 @@
 --     flush-corners, close-corners          what a flush, a close leaves
 --     abandon-corners                       what abandon leaves
 --     opens, opens-with                     a record as first made, and the character that BOM mode hands out
+--     opens-encoded                         .. and its bytes in UTF-8
 use Prim.Native.Nat.{ℕ, _+_, _<_}
 use mathlib.Core.Bool.{true, false, not, _&&_}
 use mathlib.Core.List.{List, [], _∷_, _++_, append-nil}
@@ -17,7 +18,7 @@ use lib.Seq.{sets}
 use borrow.Author.Tests.{eqb-true, eqb-false, ne-eqb}
 use Rattle.common.proofs.Kit.{never, split}
 use Rattle.ranges.specs.Ranges.{member}
-use Rattle.unicode.specs.Utf8.{charsOf}
+use Rattle.unicode.specs.Utf8.{encodeOf, charsOf}
 use Rattle.unicode.proofs.Texts.{longest-only}
 use Rattle.text_utils.specs.Classes.{basicTextStart, basicTextEnd}
 use Rattle.text_output.specs.declared.Ground.the-variants.{Newline, ZwjOrPrepend, Other}
@@ -286,3 +287,8 @@ opens mode = record { in-mode = refl; expects = refl; after-newline = (refl, ref
 -- "FEFF is handed out on opening"
 pub opens-with : byteOrderMark ≡ 0xFEFF
 opens-with = refl
+
+-- the bytes of the mark in the last example of RFC 3629, section 7
+pub opens-encoded : encodeOf byteOrderMark ≡ 0xEF ∷ 0xBB ∷ 0xBF ∷ []
+unfolding encodeOf
+opens-encoded = refl

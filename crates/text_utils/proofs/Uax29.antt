@@ -4,7 +4,7 @@
 --     start-by-uax29     a start, by the page and Grapheme_Cluster_Break; 34F apart
 --     end-by-uax29       an end, by Grapheme_Cluster_Break; 890 and 891 apart
 --     start-answer, end-answer     so the entries, where they do not refuse, answer the class by UAX #29
-use mathlib.Core.Path.{_≡_, refl, sym, ap, _∙_}
+use mathlib.Core.Path.{_≡_, refl, ap, _∙_}
 use mathlib.Core.Bool.{Bool, true, false, not, _&&_, _||_, cond, and-true, and-false, or-false}
 use mathlib.Core.List.{List, [], _∷_}
 use Prim.Native.Nat.{ℕ}
