@@ -4,7 +4,9 @@
 --     right-page, counts, from-le, enough, accepted-is
 --                                 where it is accepted: the page is, the count stays within its limit, the chunk has what is skipped,
 --                                 what it appends has room, and its outcome
---     finish-refused, finished-is a finish
+--     ending-chars, ending-next   what a finish appends, and the record after it
+--     finish-refused, finish-enough, finished-is
+--                                 a finish
 use mathlib.Core.Path.{_≡_, sym, _∙_}
 use mathlib.Core.Bool.{Bool, true, false, cond, not, _&&_, _||_}
 use mathlib.Core.List.{List, [], _∷_, _++_}
@@ -27,10 +29,11 @@ use Rattle.text_input_parts.specs.Appended.{leadChars, lastOf, endMarkOf, newli
 use Rattle.text_input_parts.specs.Refusals.{maxCount, placesForChunk}
 use Rattle.text_input.specs.Scan.{runOf, scanRefusal, leadingBom, skipped, opened, Outcome, outcome, refused, scanOf, pendingOf, afterLine, finishChars, finishNext, finishOf}
 use Rattle.text_input.specs.declared.Ran.{Ran}
-use Rattle.text_input.specs.Inner.{outs, ranBy}
+use Rattle.text_input.specs.declared.Ending.{Ending}
+use Rattle.text_input.specs.Inner.{outs, ranBy, endingChars}
 use Rattle.text_input_parts.proofs.Last.{last-three}
 use Rattle.text_input_parts.proofs.Passed.{ChunkPassed, passed}
-use Rattle.text_input.proofs.Room.{part-room, ending-room}
+use Rattle.text_input.proofs.Room.{part-room, finish-room}
 
 -- ---- a scan
 bom-le : (cs : List ℕ) → leadingBom cs ≤ length cs
@@ -91,32 +94,30 @@ module _ (a : Asked) where
         accepted-is ran q h = rw (← a .is, eq-eqb (a .no) 0 z, h .0, h .1, zero-add, f, g)
 
 -- ---- a finish
+module _ (r : TextInput) (eof : Bool) (lead mark newline : Lead) (last : ℕ) (line : Bool)
+    (h₁ : lead ≡ pendingOf (r .state)) (h₂ : last ≡ lastOf (r .last) (leadChars lead)) (h₃ : mark ≡ endMarkOf last)
+    (h₄ : line ≡ afterLine (r .state)) (h₅ : newline ≡ newlineOf (eof && not line)) where
+  pub ending-chars : leadChars lead ++ (leadChars mark ++ leadChars newline) ≡ finishChars r eof
+  ending-chars = rw (h₅, h₃, h₂, h₁, h₄)
+
+  pub ending-next : (l₂ l₃ : ℕ) → l₂ ≡ lastOf last (leadChars mark) → l₃ ≡ lastOf l₂ (leadChars newline) →
+      record { state = Ground (eof || line); «expect_starter» = true; «at_start» = r .«at_start»; last = l₃; count = r .count }
+      ≡ finishNext r eof
+  ending-next l₂ l₃ h₆ h₇ =
+      let l : l₃ ≡ lastOf (r .last) (finishChars r eof) =
+      rw (h₇, h₆, h₂) (last-three (r .last) (leadChars lead) (leadChars mark) (leadChars newline) ∙ rw ending-chars) in
+      rw (l, h₄)
+
 module _ (r : TextInput) (eof : Bool) (queue : List ℕ) where
   pub finish-refused : length queue < 2 → refused r 8 queue ≡ finishOf r eof queue
   unfolding finishOf
   finish-refused h = rw (lt-ltb (length queue) 2 h)
 
-  module _ (room : 2 ≤ length queue) (lead mark newline : Lead) (last : ℕ)
-      (h₁ : lead ≡ pendingOf (r .state)) (h₂ : last ≡ lastOf (r .last) (leadChars lead)) (h₃ : mark ≡ endMarkOf last) where
-    pub finish-enough : length (leadChars lead ++ (leadChars mark ++ leadChars newline)) ≤ length queue
-    finish-enough = rw (h₃, h₂, h₁) (omega (arith, ending-room (r .state) (r .last) newline))
+  module _ (room : 2 ≤ length queue) (e : Ending) (h : (endingChars e ≡ finishChars r eof) × (e .next ≡ finishNext r eof)) where
+    pub finish-enough : length (endingChars e) ≤ length queue
+    finish-enough = rw (h .0) (omega (arith, finish-room r eof))
 
-    pub finished-is : (line expect start : Bool) (l₂ l₃ k : ℕ) (q : List ℕ) →
-        line ≡ afterLine (r .state) → newline ≡ newlineOf (eof && not line) → expect ≡ finishNext r eof .«expect_starter» →
-        start ≡ finishNext r eof .«at_start» →
-        l₂ ≡ lastOf last (leadChars mark) → l₃ ≡ lastOf l₂ (leadChars newline) →
-        (k ≡ length (leadChars lead ++ (leadChars mark ++ leadChars newline)))
-        × (q ≡ sets queue 0 (leadChars lead ++ (leadChars mark ++ leadChars newline)))
-        → outcome
-        (record {
-          answer = Written k;
-          next = record { state = Ground (eof || line); «expect_starter» = expect; «at_start» = start; last = l₃; count = r .count };
-        })
-        q
-        ≡ finishOf r eof queue
+    pub finished-is : (k : ℕ) (q : List ℕ) → (k ≡ length (endingChars e)) × (q ≡ sets queue 0 (endingChars e)) →
+        outcome (record { answer = Written k; next = e .next }) q ≡ finishOf r eof queue
     unfolding finishOf
-    finished-is line expect start l₂ l₃ k q h₄ h₅ h₆ h₇ h₈ h₉ h =
-        let parts : leadChars lead ++ (leadChars mark ++ leadChars newline) ≡ finishChars r eof = rw (h₅, h₃, h₂, h₁, h₄) in
-        let l : l₃ ≡ lastOf (r .last) (finishChars r eof) =
-        rw (h₉, h₈, h₂) (last-three (r .last) (leadChars lead) (leadChars mark) (leadChars newline) ∙ rw parts) in
-        rw (le-ltb (length queue) 2 room, l, h .0, h .1, parts, h₄, h₆, h₇)
+    finished-is k q g = rw (le-ltb (length queue) 2 room, g .0, g .1, h .0, h .1)

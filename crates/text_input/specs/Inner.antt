@@ -1,17 +1,19 @@
 -- What inner functions of src/lib.rt answer, that take a run, a step or a stretch of it. No entry's contract cites this file.
 use Prim.Native.Nat.{ℕ, _+_, _≤_, _<_}
 use mathlib.Core.Bool.{Bool, true, false, not, _&&_}
-use mathlib.Core.List.{List}
+use mathlib.Core.List.{List, _++_}
 use mathlib.Core.Path.{_≡_}
 use lib.Dec.{eqb}
 use lib.ListN.{length}
 use lib.Seq.{sets}
 use Rattle.stretch.specs.Stretch.{part}
 use Rattle.stretch.specs.Plain.{Gap}
+use Rattle.text_input_parts.specs.Appended.{leadChars}
 use Rattle.text_input.specs.declared.State.{State}
 use Rattle.text_input.specs.declared.State.the-variants.{Ground, Cr, Ff, Esc, CsiStart, Csi, Osc, Linux}
 use Rattle.text_input.specs.declared.Options.{Options}
 use Rattle.text_input.specs.declared.TextInput.{TextInput}
+use Rattle.text_input.specs.declared.Ending.{Ending}
 use Rattle.text_input.specs.declared.Moved.{Moved}
 use Rattle.text_input.specs.declared.Ran.{Ran}
 use Rattle.text_input.specs.Scan.{Effect, runOf}
@@ -49,6 +51,10 @@ ranBy k e = record { written = k + length (e .out); next = e .next }
 
 abbrev pub ranIn : Moved → Ran
 ranIn m = record { written = m .written; next = m .next }
+
+-- what a finish appends, by its parts
+abbrev pub endingChars : Ending → List ℕ
+endingChars e = leadChars (e .lead) ++ (leadChars (e .mark) ++ leadChars (e .newline))
 
 -- the chunk is taken from place i up to a later one, and what its characters come to is stored from place k on
 pub record Moves (p : List ℕ) (o : Options) (r : TextInput) (chunk : List ℕ) (i : ℕ) (queue : List ℕ) (k : ℕ) (m : Moved) (after : List ℕ) : Type 0 where

@@ -4,7 +4,7 @@
 // character. Filling bytes from the queue is the crate `text_input_fill`.
 // What needs no record, sets of characters, what is appended and its stores, and refusals, is the crate `text_input_parts`.
 //     step.rt    one character in one state: `process_raw_string` without its loop
-mod step;
+pub mod step;
 
 use common::Answer;
 use common::NO_ROOM;
@@ -35,8 +35,8 @@ ghost use Rattle.page.specs.Page.{accepted};
 ghost use Rattle.stretch.specs.Plain.{Gap};
 ghost use Rattle.text_input_parts.specs.Refusals.{maxCount};
 ghost use Rattle.text_input.specs.Step.{scanStepOf, outChars};
-ghost use Rattle.text_input.specs.Scan.{fresh, stepEffect, runOf, skipped, opened, outcome, scanOf, pendingOf, afterLine, finishOf};
-ghost use Rattle.text_input.specs.Inner.{outs, grounded, steady, passedBy, ranBy, Moves};
+ghost use Rattle.text_input.specs.Scan.{fresh, stepEffect, runOf, skipped, opened, outcome, scanOf, pendingOf, afterLine, finishChars, finishNext, finishOf};
+ghost use Rattle.text_input.specs.Inner.{outs, grounded, steady, passedBy, ranBy, Moves, endingChars};
 
 // What the characters so far leave open. `Ground`: nothing; its flag is true after a newline, and before the first character.
 pub enum State {
@@ -88,6 +88,14 @@ struct Moved {
     written: usize,
     next: TextInput,
     gap: Range,
+}
+
+// What a finish appends, one after the other, and the record after it.
+pub struct Ending {
+    pub lead: Lead,
+    pub mark: Lead,
+    pub newline: Lead,
+    pub next: TextInput,
 }
 
 // How far the queue is written, and the record.
@@ -278,6 +286,32 @@ impl TextInput {
         }
     }
 
+    // What is pending, 34F after a last character that is no end, and the newline that is owed, with the record after them. Inner;
+    // total.
+    pub fn ending(self, eof: bool) -> Ending
+        ensures chars { λ r. ⌜ endingChars r ≡ finishChars self eof ⌝ }
+        ensures next { λ r. ⌜ r .next ≡ finishNext self eof ⌝ }
+    {
+        let state = self.state;
+        let line = after_line(state);
+        let lead = pending(state);
+        let last = last_lead(self.last, lead);
+        let mark = end_mark(last);
+        let newline = owed_newline(eof & !line);
+        Ending {
+            lead,
+            mark,
+            newline,
+            next: Self {
+                state: State::Ground(eof | line),
+                expect_starter: true,
+                at_start: self.at_start,
+                last: last_lead(last_lead(last, mark), newline),
+                count: self.count,
+            },
+        }
+    }
+
     // The stream is pushed, or it ends: what is pending goes to the first places of the queue, with what ends a text. Total: refuses
     // 8 under two places, and then leaves record and places.
     pub fn finish(self, eof: bool, queue: &mut [u32]) -> Scanned
@@ -289,28 +323,21 @@ impl TextInput {
                 next: self,
             };
         }
-        let state = self.state;
-        let line = after_line(state);
-        let lead = pending(state);
-        let last = last_lead(self.last, lead);
-        let mark = end_mark(last);
-        let newline = owed_newline(eof & !line);
+        let ending = self.ending(eof);
+        let lead = ending.lead;
+        let mark = ending.mark;
+        let newline = ending.newline;
         let written = put_three(queue, lead, mark, newline);
+        let next = ending.next;
         Scanned {
             answer: Answer::Written(written),
-            next: Self {
-                state: State::Ground(eof | line),
-                expect_starter: true,
-                at_start: self.at_start,
-                last: last_lead(last_lead(last, mark), newline),
-                count: self.count,
-            },
+            next,
         }
     }
 }
 
-// Whether nothing is pending.
-fn is_ground(state: State) -> bool
+// Whether nothing is pending. Inner; total.
+pub fn is_ground(state: State) -> bool
     ensures { λ r. ⌜ r ≡ grounded state ⌝ }
 {
     match state {

@@ -61,8 +61,8 @@ pub struct Step {
     pub next: TextInput,
 }
 
-// 85, 2028 or 2029, where its option is on.
-fn is_optional_line(options: Options, c: u32) -> bool
+// 85, 2028 or 2029, where its option is on. Inner; total.
+pub fn is_optional_line(options: Options, c: u32) -> bool
     ensures { λ r. ⌜ r ≡ optionalLine options c ⌝ }
 {
     (c == NEL) & options.nel_compatibility | ((c == LS) | (c == PS)) & options.lsps_compatibility
@@ -96,9 +96,9 @@ fn leave_csi(c: u32) -> Left
     }
 }
 
-// In each state.
+// In each state. Inner; total.
 // "Guarded matches: matches on a local, then ifs."
-fn leave(state: State, c: u32) -> Left
+pub fn leave(state: State, c: u32) -> Left
     ensures { λ r. ⌜ r ≡ leaveOf state c ⌝ }
 {
     match state {
