@@ -1,4 +1,4 @@
-//! The generated files of the crates `text_utils`, `replace` and `check_char`. The folders are those of the original's sources, of Unicode's
+//! The generated files of the crates `text_utils`, `replace`, `check_char` and `page_15`. The folders are those of the original's sources, of Unicode's
 //! data and of the crate `text_utils`, beside which the others stand.
 //!
 //!     tables src SOURCES DATA CRATE      writes src/tables.rt
@@ -7,9 +7,11 @@
 //!     tables unicode SOURCES DATA CRATE  writes specs/Unicode.antt of the crate `check_char`, which stands beside it
 //!     tables replaced SOURCES DATA CRATE writes specs/Runs.antt of the crate `replace`
 //!     tables reasons SOURCES DATA CRATE  writes specs/Runs.antt of the crate `check_char`
+//!     tables page SOURCES DATA CRATE     writes src/numbers.rt of the crate `page_15`
+//!     tables ranges SOURCES DATA CRATE   writes specs/Unicode.antt of the crate `page_15`
 //!     tables check SOURCES DATA CRATE    compares all with the crates' files, and the sources with each other
 
-use harness::tables::{check, files, runs, unicode, ORIGINAL};
+use harness::tables::{check, files, page, runs, unicode, ORIGINAL};
 use std::path::Path;
 use std::process::ExitCode;
 use std::{env, fs};
@@ -26,6 +28,8 @@ fn main() -> ExitCode {
         "unicode" => unicode::specs(Path::new(data)),
         "replaced" => Ok(runs::replaced()),
         "reasons" => Ok(runs::reasons()),
+        "page" => Ok(page::src()),
+        "ranges" => page::specs(Path::new(data)),
         "check" => check_all(sources, Path::new(data), Path::new(package)),
         _ => return usage(),
     };
@@ -42,7 +46,7 @@ fn main() -> ExitCode {
 }
 
 fn usage() -> ExitCode {
-    eprintln!("usage: tables src|specs|breaks|unicode|replaced|reasons|check SOURCES DATA CRATE");
+    eprintln!("usage: tables src|specs|breaks|unicode|replaced|reasons|page|ranges|check SOURCES DATA CRATE");
     ExitCode::from(2)
 }
 
@@ -50,7 +54,9 @@ fn usage() -> ExitCode {
 fn check_all(sources: &str, data: &Path, package: &Path) -> Result<String, String> {
     let found = check::check(&original(sources)?, data, package)?;
     let crates = package.parent().ok_or("the crate is in no folder")?;
-    Ok(found + &unicode::check(data, &crates.join("check_char"))? + &runs::check(crates)?)
+    let of_check_char = unicode::check(data, &crates.join("check_char"))?;
+    let of_page = page::check(data, &crates.join("page_15"))?;
+    Ok(found + &of_check_char + &runs::check(crates)? + &of_page)
 }
 
 /// The text of the original's file.

@@ -30,6 +30,16 @@ pub fn of_break(folder: &Path, values: &[&str]) -> Result<Set, String> {
 
 /// The ranges of a file with a value, in the file's order, which rises.
 pub fn of_file(folder: &Path, file: &str, value: &str) -> Result<Vec<Range>, String> {
+    let ranges = of_values(folder, file, |other| other == value)?;
+    let rises = ranges.windows(2).all(|pair| pair[0].1 < pair[1].0);
+    if ranges.is_empty() || !rises {
+        return Err(format!("{file}: the ranges of {value} are none, or do not rise"));
+    }
+    Ok(ranges)
+}
+
+/// The ranges of a file whose value is a wanted one, in the file's order.
+pub fn of_values(folder: &Path, file: &str, wanted: impl Fn(&str) -> bool) -> Result<Vec<Range>, String> {
     let path = folder.join(file);
     let text = fs::read_to_string(&path).map_err(|error| format!("{}: {error}", path.display()))?;
     if !is_of_version(&text) {
@@ -38,13 +48,9 @@ pub fn of_file(folder: &Path, file: &str, value: &str) -> Result<Vec<Range>, Str
     let mut ranges = Vec::new();
     for line in text.lines() {
         let fields = line.split('#').next().unwrap_or(line);
-        if fields.split(';').nth(1).is_some_and(|field| field.trim() == value) {
+        if fields.split(';').nth(1).is_some_and(|field| wanted(field.trim())) {
             ranges.push(range(fields).ok_or(format!("{file}: {line:?} is no range"))?);
         }
-    }
-    let rises = ranges.windows(2).all(|pair| pair[0].1 < pair[1].0);
-    if ranges.is_empty() || !rises {
-        return Err(format!("{file}: the ranges of {value} are none, or do not rise"));
     }
     Ok(ranges)
 }

@@ -31,7 +31,7 @@ use Prim.Native.Nat.{ℕ}
 const LONGEST_LINE: usize = 100;
 const LONGEST_LIST: usize = 60;
 
-/// The ranges on a line of `specs/Tables.antt` and of `specs/Breaks.antt`.
+/// The ranges on a line of a definition.
 const RANGES_ON_A_LINE: usize = 5;
 
 /// `src/tables.rt`: the lists in the order of the original.
@@ -49,14 +49,15 @@ pub fn src(text: &str) -> Result<String, String> {
 }
 
 fn arrays(property: &Property, ranges: &[Range]) -> String {
-    let firsts = array(property.array, "FIRST", ranges.iter().map(|range| range.0));
-    let lasts = array(property.array, "LAST", ranges.iter().map(|range| range.1));
+    let firsts = array(&format!("{}_FIRST", property.array), ranges.iter().map(|range| range.0));
+    let lasts = array(&format!("{}_LAST", property.array), ranges.iter().map(|range| range.1));
     format!("\n// {}\n{firsts}\n{lasts}", property.function)
 }
 
-fn array(name: &str, end: &str, numbers: impl Iterator<Item = u32>) -> String {
+/// A list of numbers as an array.
+pub fn array(name: &str, numbers: impl Iterator<Item = u32>) -> String {
     let words: Vec<String> = numbers.map(|number| format!("{number:#x}")).collect();
-    let start = format!("pub const {name}_{end}: [u32; {}] = [", words.len());
+    let start = format!("pub const {name}: [u32; {}] = [", words.len());
     let list = words.join(", ");
     if list.len() <= LONGEST_LIST && start.len() + list.len() + "];".len() <= LONGEST_LINE {
         return format!("{start}{list}];\n");
@@ -84,7 +85,8 @@ pub fn breaks(folder: &Path) -> Result<String, String> {
     Ok(file)
 }
 
-fn definition(name: &str, comment: &str, ranges: &[Range]) -> String {
+/// A list of ranges as a definition.
+pub fn definition(name: &str, comment: &str, ranges: &[Range]) -> String {
     let comment: String = comment.lines().map(|line| format!("-- {line}\n")).collect();
     let lines: String = ranges.chunks(RANGES_ON_A_LINE).map(definition_line).collect();
     format!("\n{comment}abbrev pub {name} : List (ℕ × ℕ)\n{name} =\n{lines}    []\n")

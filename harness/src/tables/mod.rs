@@ -5,6 +5,7 @@ pub mod check;
 pub mod data;
 pub mod files;
 pub mod original;
+pub mod page;
 pub mod runs;
 pub mod unicode;
 
@@ -40,6 +41,7 @@ use Source::{File, SpacingMarkExceptions};
 
 const CORE: &str = "DerivedCoreProperties.txt";
 const CATEGORY: &str = "extracted/DerivedGeneralCategory.txt";
+const COMBINING: &str = "extracted/DerivedCombiningClass.txt";
 const EMOJI: &str = "emoji/emoji-data.txt";
 const INDIC: &str = "IndicSyllabicCategory.txt";
 const PROPERTIES_LIST: &str = "PropList.txt";
