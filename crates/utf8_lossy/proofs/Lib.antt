@@ -1,0 +1,3 @@
+-- The laws of this crate, in the order in which they lean on each other.
+pub mod Room
+pub mod Calls

@@ -1,0 +1,165 @@
+-- How much comes out, and that it is characters, whatever is pending: each law holds of one turn, by its kind, and so of a chunk.
+--     room           a chunk and the finish put out at most a character a byte, and one for what was pending
+--     room-one       so a chunk of n bytes puts out n + 1 characters at most
+--     replaced-le    U+FFFD stands for no more bytes than came and were pending
+--     are-chars      all that a chunk puts out is characters, and so is what a finish puts out
+--     more-short     where a byte is held, fewer than three were
+--     pending-short  a record holds three bytes at most
+--     pending-back   a record read back from its bytes: no two hold the same
+use Prim.Native.Nat.{ℕ, _+_, _*_, _%_, _≤_, _<_}
+use mathlib.Core.Bool.{true, false}
+use mathlib.Core.List.{List, [], _∷_, _++_}
+use mathlib.Core.Path.{_≡_, refl, sym, ap, _∙_}
+use native.Mathlib.Omega.{arith}
+use borrow.Author.Tests.{ltb-true}
+use lib.Dec.{ltb}
+use lib.ListN.{length, length-append}
+use Rattle.common.proofs.Kit.{by, split, both, both-true}
+use Rattle.unicode.specs.Chars.{isChar, areChars}
+use Rattle.unicode.proofs.Rows.{char-low, char-high}
+use Rattle.utf8_lossy.specs.declared.Kind.{Kind}
+use Rattle.utf8_lossy.specs.declared.Kind.the-variants.{Whole, More, Bad}
+use Rattle.utf8_lossy.specs.declared.Pending.{Pending}
+use Rattle.utf8_lossy.specs.declared.Pending.the-variants.{Nothing, One, Two, Three}
+use Rattle.utf8_lossy.specs.Machine.{wholeOf, onTail, leadThree, leadFour, nextOf, Turn, freshOf, turnOf, stepOf, outsOf, restOf, replacedOf, finishOf}
+use Rattle.utf8_lossy.specs.Decode.{pendingOf}
+
+-- ---- characters
+held-fresh : (k : Kind) (b : ℕ) → length (freshOf k b .out) + length (finishOf (freshOf k b .pending)) ≡ 1
+held-fresh (Whole c) b = refl
+held-fresh More b = refl
+held-fresh Bad b = refl
+
+pushed : (p : List ℕ) (b : ℕ) → length (finishOf (p ++ (b ∷ []))) ≡ 1
+pushed [] b = refl
+pushed (a ∷ p) b = refl
+
+held : (k : Kind) (p : List ℕ) (b : ℕ) → length (turnOf k p b .out) + length (finishOf (turnOf k p b .pending)) ≤ 1 + length (finishOf p)
+held (Whole c) p b = omega arith
+held More p b = omega (arith, pushed p b)
+held Bad [] b = omega arith
+held Bad (a ∷ p) b = omega (arith, held-fresh (nextOf [] b) b)
+
+finish-one : (p : List ℕ) → length (finishOf p) ≤ 1
+finish-one [] = omega arith
+finish-one (a ∷ p) = omega arith
+
+pub room : (p bs : List ℕ) → length (outsOf p bs) + length (finishOf (restOf p bs)) ≤ length bs + length (finishOf p)
+room p [] = omega arith
+room p (b ∷ bs) =
+    let t = stepOf p b in
+    omega (arith, length-append (t .out) (outsOf (t .pending) bs), held (nextOf p b) p b, room (t .pending) bs)
+
+pub room-one : (p bs : List ℕ) → length (outsOf p bs) ≤ length bs + 1
+room-one p bs = omega (arith, room p bs, finish-one p)
+
+-- ---- bytes that U+FFFD stands for
+taken-fresh : (k : Kind) (b : ℕ) → freshOf k b .replaced + length (freshOf k b .pending) ≤ 1
+taken-fresh (Whole c) b = omega arith
+taken-fresh More b = omega arith
+taken-fresh Bad b = omega arith
+
+taken : (k : Kind) (p : List ℕ) (b : ℕ) → turnOf k p b .replaced + length (turnOf k p b .pending) ≤ 1 + length p
+taken (Whole c) p b = omega arith
+taken More p b = omega (arith, length-append p (b ∷ []))
+taken Bad [] b = omega arith
+taken Bad (a ∷ p) b = omega (arith, taken-fresh (nextOf [] b) b)
+
+pub replaced-le : (p bs : List ℕ) → replacedOf p bs + length (restOf p bs) ≤ length bs + length p
+replaced-le p [] = omega arith
+replaced-le p (b ∷ bs) = omega (arith, taken (nextOf p b) p b, replaced-le (stepOf p b .pending) bs)
+
+-- ---- only characters
+-- what is right of a kind: a whole is a character
+abbrev Sound : Kind → Type 0
+Sound (Whole c) = isChar c ≡ true
+Sound More = ℕ
+Sound Bad = ℕ
+
+repl : isChar 0xFFFD ≡ true
+repl = char-high 0xFFFD (omega arith) (omega arith)
+
+whole-sound : (c : ℕ) → Sound (wholeOf c)
+whole-sound c = split Sound (isChar c) (λ h. h) (λ h. 0)
+
+tail-sound : (b : ℕ) (k : Kind) → Sound k → Sound (onTail b k)
+tail-sound b k s = split Sound (ltb b 0x80) (λ h. 0) (λ h. split Sound (ltb b 0xC0) (λ i. s) (λ i. 0))
+
+next-sound : (p : List ℕ) (b : ℕ) → Sound (nextOf p b)
+next-sound [] b =
+    split Sound (ltb b 0x80) (λ h. let z = ltb-true b 0x80 h in char-low b (omega arith))
+    (λ h. split Sound (ltb b 0xC2) (λ i. 0) (λ i. split Sound (ltb b 0xF5) (λ j. 0) (λ j. 0)))
+next-sound (a ∷ []) b =
+    tail-sound b _ (split Sound (ltb a 0xE0) (λ h. char-low (a % 32 * 64 + b % 64) (omega arith))
+    (λ h. split Sound (ltb a 0xF0)
+    (λ i. split Sound (ltb (a % 16 * 64 + b % 64) 0x20) (λ j. 0)
+    (λ j. split Sound (ltb (a % 16 * 64 + b % 64) 0x360) (λ k. 0) (λ k. split Sound (ltb (a % 16 * 64 + b % 64) 0x380) (λ l. 0) (λ l. 0))))
+    (λ i. split Sound (ltb (a % 8 * 64 + b % 64) 0x10) (λ j. 0) (λ j. split Sound (ltb (a % 8 * 64 + b % 64) 0x110) (λ k. 0) (λ k. 0)))))
+next-sound (a ∷ b ∷ []) c = tail-sound c _ (split Sound (ltb a 0xF0) (λ h. whole-sound _) (λ h. 0))
+next-sound (a ∷ b ∷ c ∷ p) d = tail-sound d _ (whole-sound _)
+
+fresh-chars : (k : Kind) (b : ℕ) → Sound k → areChars (freshOf k b .out) ≡ true
+fresh-chars (Whole c) b s = both s refl
+fresh-chars More b s = refl
+fresh-chars Bad b s = both repl refl
+
+turn-chars : (k : Kind) (p : List ℕ) (b : ℕ) → Sound k → areChars (turnOf k p b .out) ≡ true
+turn-chars (Whole c) p b s = both s refl
+turn-chars More p b s = refl
+turn-chars Bad [] b s = both repl refl
+turn-chars Bad (a ∷ p) b s = both repl (fresh-chars (nextOf [] b) b (next-sound [] b))
+
+chars-append : (cs ds : List ℕ) → areChars cs ≡ true → areChars ds ≡ true → areChars (cs ++ ds) ≡ true
+chars-append [] ds s t = t
+chars-append (c ∷ cs) ds s t = let p = both-true (isChar c) (areChars cs) s in both (p .0) (chars-append cs ds (p .1) t)
+
+pub are-chars : (p bs : List ℕ) → areChars (outsOf p bs) ≡ true
+are-chars p [] = refl
+are-chars p (b ∷ bs) =
+    chars-append (stepOf p b .out) _ (turn-chars (nextOf p b) p b (next-sound p b)) (are-chars (stepOf p b .pending) bs)
+
+pub finish-chars : (p : List ℕ) → areChars (finishOf p) ≡ true
+finish-chars [] = refl
+finish-chars (a ∷ p) = both repl refl
+
+-- ---- the record
+-- where the last byte of four is taken, it is not held
+Held : Kind → Type 0
+Held (Whole c) = ⊥
+Held More = ℕ
+Held Bad = ⊥
+
+whole-held : (c : ℕ) → Held (wholeOf c) → ⊥
+unfolding Held
+whole-held c = split (λ k. Held k → ⊥) (isChar c) (λ h e. e) (λ h e. e)
+
+four-held : (d c : ℕ) → Held (onTail d (wholeOf c)) → ⊥
+unfolding Held
+four-held d c =
+    split (λ k. Held k → ⊥) (ltb d 0x80) (λ h e. e) (λ h. split (λ k. Held k → ⊥) (ltb d 0xC0) (λ i. whole-held c) (λ i e. e))
+
+pub more-short : (p : List ℕ) (b : ℕ) → nextOf p b ≡ More → length p < 3
+unfolding Held
+more-short [] b e = omega arith
+more-short (x ∷ []) b e = omega arith
+more-short (x ∷ y ∷ []) b e = omega arith
+more-short (x ∷ y ∷ z ∷ p) b e = absurd (four-held b (x % 8 * 262144 + y % 64 * 4096 + z % 64 * 64 + b % 64) (rw e 0))
+
+pub pending-short : (s : Pending) → length (pendingOf s) ≤ 3
+pending-short Nothing = omega arith
+pending-short (One a) = omega arith
+pending-short (Two a b) = omega arith
+pending-short (Three a b c) = omega arith
+
+-- the record that holds these bytes
+abbrev pub recordOf : List ℕ → Pending
+recordOf [] = Nothing
+recordOf (a ∷ []) = One a
+recordOf (a ∷ b ∷ []) = Two a b
+recordOf (a ∷ b ∷ c ∷ p) = Three a b c
+
+pub pending-back : (s : Pending) → recordOf (pendingOf s) ≡ s
+pending-back Nothing = refl
+pending-back (One a) = refl
+pending-back (Two a b) = refl
+pending-back (Three a b c) = refl
