@@ -70,6 +70,9 @@ none-out : (p bs : List ℕ) → length bs ≡ 0 → length (outsOf p bs) ≡ 0
 none-out p [] e = refl
 none-out p (b ∷ bs) e = absurd (omega arith)
 
+pub fits-places : (p bs out : List ℕ) → placesForBytes (length bs) ≤ length out → length (outsOf p bs) ≤ length out
+fits-places p bs out h = fits-by (length bs) (length (outsOf p bs)) (length out) (none-out p bs) (room-one p bs) h
+
 -- ---- the loop of `decode`
 module _ (p bs out₀ : List ℕ) where
   pub record Running (out q : List ℕ) (i k n : ℕ) : Type 0 where
@@ -86,7 +89,7 @@ module _ (p bs out₀ : List ℕ) where
       record {
         inside = omega arith;
         same = refl;
-        fits = fits-by (length bs) _ _ (none-out p bs) (room-one p bs) (enough (length bs) (length out₀) h);
+        fits = fits-places p bs out₀ (enough (length bs) (length out₀) h);
         rest = refl;
         count = zero-add _;
         replaced = zero-add _;
