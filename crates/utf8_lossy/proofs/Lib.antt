@@ -3,4 +3,5 @@ pub mod Room
 pub mod Calls
 pub mod Table
 pub mod Reading
+pub mod Texts
 pub mod Examples
