@@ -14,8 +14,7 @@ returns c =
     let h₂ = m .before .last-lead .ensures in
     let h₃ = m .end-mark .ensures in
     let h₄ = l .after-line .ensures in
-    let h₅ = n .owed-newline .ensures in
-    (
+    let h₅ = n .owed-newline .ensures in (
       ending-chars (a .self) (a .eof) _ _ _ _ _ h₁ h₂ h₃ h₄ h₅,
       ending-next (a .self) (a .eof) _ _ _ _ _ h₁ h₂ h₃ h₄ h₅ _ _ (c .before .last-lead2 .ensures) (c .last-lead3 .ensures),
     )
