@@ -59,10 +59,11 @@ abbrev pub refusalOf : List ℕ → ℕ → ℕ → ℕ
 refusalOf p needed room = thenRoom (cond (not (accepted p)) 2 0) needed room
 
 -- ---- bytes come in
--- three places for each byte, and those for a character cut off and for 34F before the first; an empty chunk needs none
+-- three places for each byte, those of a character cut off included, and those for 34F before a text and after it; an empty chunk needs
+-- none
 abbrev pub placesForBytes : ℕ → ℕ
 placesForBytes zero = 0
-placesForBytes (suc n) = 3 * suc n + 11
+placesForBytes (suc n) = 3 * suc n + 13
 
 -- the characters of the chunk, from a record on, and what they come to
 abbrev pub charsIn : Cleaner → List ℕ → List ℕ

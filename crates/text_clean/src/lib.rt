@@ -349,7 +349,7 @@ impl Cleaner {
     }
 
     // Takes a chunk of bytes, and writes the cleaned bytes to the first places. With `lines` each line, up to a 0A and with it, is a
-    // text of its own. Total: refuses 2, then 8 under 3 × n + 11 places for n bytes, and then leaves record and places. An empty chunk
+    // text of its own. Total: refuses 2, then 8 under 3 × n + 13 places for n bytes, and then leaves record and places. An empty chunk
     // needs no place.
     pub fn clean(
         self,
@@ -426,8 +426,8 @@ fn is_short(n: usize, room: usize) -> bool
     if n == 0 {
         return false;
     }
-    if room < 11 {
+    if room < 13 {
         return true;
     }
-    (room - 11) / 3 < n
+    (room - 13) / 3 < n
 }
