@@ -11,7 +11,6 @@ ghost use Prim.Native.Nat.{_+_, _≤_, _<_};
 ghost use lib.ListN.{length};
 ghost use lib.Seq.{sets};
 ghost use Rattle.stretch.specs.Plain.{Gap};
-ghost use Rattle.text_clean.specs.Text.{bit};
 ghost use Rattle.text_clean.specs.Inner.{plainByte, PlainBytes, PlainTo, PlainRun, lineEndAt};
 
 // Where a run ends, how many characters it has, and the last of them.
@@ -19,12 +18,6 @@ pub struct PlainEnd {
     pub at: usize,
     pub chars: usize,
     pub last: u32,
-}
-
-fn one(b: bool) -> usize
-    ensures { λ r. ⌜ r ≡ bit b ⌝ }
-{
-    if b { 1 } else { 0 }
 }
 
 // Tab, and 20 to 7E.
@@ -48,24 +41,7 @@ fn block(bytes: &[u8], at: usize) -> bool
     good
 }
 
-// Of the 16 bytes from a place on, so many that are plain, without a branch.
-fn prefix(bytes: &[u8], at: usize) -> usize
-    requires { ⌜ at + 16 ≤ length (now bytes) ⌝ }
-    ensures { λ r. ⌜ r ≤ 16 ⌝ }
-    ensures { λ r. ⌜ PlainBytes (now (bytes .entry)) at (at + r) ⌝ }
-{
-    let mut good = true;
-    let mut n = 0;
-    let mut j = 0;
-    while j < 16 {
-        good = good & is_plain(bytes[at + j]);
-        n += one(good);
-        j += 1;
-    }
-    n
-}
-
-// A place up to which all bytes are plain: by blocks, then within one, and at the end of the bytes one by one.
+// A place up to which all bytes are plain: by blocks, then one by one.
 fn ascii_end(bytes: &[u8], from: usize) -> usize
     requires { ⌜ from ≤ length (now bytes) ⌝ }
     ensures { λ r. ⌜ PlainTo (now (bytes .entry)) from r ⌝ }
@@ -73,7 +49,7 @@ fn ascii_end(bytes: &[u8], from: usize) -> usize
     let mut i = from;
     while 16 <= bytes.len() - i {
         if !block(bytes, i) {
-            return i + prefix(bytes, i);
+            break;
         }
         i += 16;
     }
@@ -86,7 +62,7 @@ fn ascii_end(bytes: &[u8], from: usize) -> usize
     i
 }
 
-// A run of plain characters from a place on. Inner: asks for a place of the bytes, and for a gap.
+// A run of plain characters from a place on. Blocks are looked at where ASCII stands. Inner: asks for a place of the bytes, and for a gap.
 pub fn plain_run(bytes: &[u8], from: usize, gap: Range) -> PlainEnd
     requires { ⌜ from ≤ length (now bytes) ⌝ }
     requires { ⌜ Gap gap ⌝ }
@@ -96,11 +72,15 @@ pub fn plain_run(bytes: &[u8], from: usize, gap: Range) -> PlainEnd
     let mut chars = 0;
     let mut last = 0;
     loop {
-        let end = ascii_end(bytes, at);
-        if at < end {
-            chars = chars + (end - at);
-            last = bytes[end - 1] as u32;
-            at = end;
+        if at < bytes.len() {
+            if bytes[at] < 0x80 {
+                let end = ascii_end(bytes, at);
+                if at < end {
+                    chars = chars + (end - at);
+                    last = bytes[end - 1] as u32;
+                    at = end;
+                }
+            }
         }
         let Utf8Step::Char(c, next) = utf8_step(bytes, at) else {
             return PlainEnd { at, chars, last };
