@@ -2,3 +2,5 @@
 -- fit (`Room`).
 pub mod Append
 pub mod Room
+pub mod Ready
+pub mod Turns
