@@ -1,5 +1,6 @@
 -- The laws of this crate, in the order in which they lean on each other.
 pub mod Room
+pub mod Sizes
 pub mod Calls
 pub mod Table
 pub mod Reading
