@@ -58,7 +58,11 @@ enough : (n m : ℕ) → tooFew n m ≡ false → placesForBytes n ≤ m
 enough zero m h = omega arith
 enough (suc n) m h = by-lt (suc n) m (λ l. omega arith) (λ l. never (sym h ∙ both (lt-ltb 0 (suc n) (omega arith)) (le-leb m (suc n) l)))
 
-more-places : (n m : ℕ) → placesForBytes n ≤ m → 0 < n → n < m
+pub few-places : (n m : ℕ) → m < placesForBytes n → (0 < n) × (m ≤ n)
+few-places zero m h = absurd (omega arith)
+few-places (suc n) m h = omega arith
+
+pub more-places : (n m : ℕ) → placesForBytes n ≤ m → 0 < n → n < m
 more-places zero m h l = absurd (omega arith)
 more-places (suc n) m h l = omega arith
 

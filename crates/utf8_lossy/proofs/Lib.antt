@@ -2,6 +2,7 @@
 pub mod Room
 pub mod Sizes
 pub mod Calls
+pub mod Leaves
 pub mod Table
 pub mod Reading
 pub mod Texts

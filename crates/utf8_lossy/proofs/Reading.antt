@@ -14,7 +14,7 @@
 --     valid            what is valid UTF-8 is read as `charsOf` reads it, and nothing is replaced
 use Prim.Native.Nat.{ℕ, _+_, _≤_}
 use mathlib.Core.Path.{_≡_, refl, sym, ap, subst, _∙_}
-use mathlib.Core.Bool.{true, false}
+use mathlib.Core.Bool.{true}
 use mathlib.Core.Logic.{_⊎_, inl, inr, ⊎-elim}
 use mathlib.Core.List.{List, [], _∷_, _++_, append-assoc, append-nil}
 use native.Mathlib.Omega.{arith}
@@ -34,7 +34,7 @@ use Rattle.utf8_lossy.specs.declared.Kind.the-variants.{Whole, More, Bad
 use Rattle.utf8_lossy.specs.declared.Pending.{Pending}
 use Rattle.utf8_lossy.specs.Lossy.{Unconvertible, Initial, Piece, Lossy, done, char, bad}
 use Rattle.utf8_lossy.specs.Machine.{nextOf, Turn, freshOf, turnOf, stepOf, outsOf, restOf, replacedOf, finishOf}
-use Rattle.utf8_lossy.specs.Decode.{pendingOf, Outcome, outcome, placesForBytes, decodeOf, replacedIn, joined, Calls, none, call}
+use Rattle.utf8_lossy.specs.Decode.{pendingOf, Outcome, placesForBytes, decodeOf, replacedIn, joined, Calls, none, call}
 use Rattle.utf8_lossy.proofs.Calls.{fits-places}
 use Rattle.utf8_lossy.proofs.Table.{State, Right, Dead, table}
 

@@ -7,21 +7,21 @@
 --     pending-short  a record holds three bytes at most
 --     pending-back   a record read back from its bytes: no two hold the same
 use Prim.Native.Nat.{ℕ, _+_, _*_, _%_, _≤_, _<_}
-use mathlib.Core.Bool.{true, false}
+use mathlib.Core.Bool.{true}
 use mathlib.Core.List.{List, [], _∷_, _++_}
-use mathlib.Core.Path.{_≡_, refl, sym, ap, _∙_}
+use mathlib.Core.Path.{_≡_, refl}
 use native.Mathlib.Omega.{arith}
 use borrow.Author.Tests.{ltb-true}
 use lib.Dec.{ltb}
 use lib.ListN.{length, length-append}
-use Rattle.common.proofs.Kit.{by, split, both, both-true}
+use Rattle.common.proofs.Kit.{split, both, both-true}
 use Rattle.unicode.specs.Chars.{isChar, areChars}
 use Rattle.unicode.proofs.Rows.{char-low, char-high}
 use Rattle.utf8_lossy.specs.declared.Kind.{Kind}
 use Rattle.utf8_lossy.specs.declared.Kind.the-variants.{Whole, More, Bad}
 use Rattle.utf8_lossy.specs.declared.Pending.{Pending}
 use Rattle.utf8_lossy.specs.declared.Pending.the-variants.{Nothing, One, Two, Three}
-use Rattle.utf8_lossy.specs.Machine.{wholeOf, onTail, leadThree, leadFour, nextOf, Turn, freshOf, turnOf, stepOf, outsOf, restOf, replacedOf, finishOf}
+use Rattle.utf8_lossy.specs.Machine.{wholeOf, onTail, nextOf, freshOf, turnOf, stepOf, outsOf, restOf, replacedOf, finishOf}
 use Rattle.utf8_lossy.specs.Decode.{pendingOf}
 
 -- ---- characters

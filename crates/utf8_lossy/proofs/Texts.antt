@@ -6,18 +6,18 @@
 --     step-ends, low-ends    a byte below 80 ends what is pending, whatever it is: U+FFFD for it, and then itself
 --     newline-ends   so does 0A
 --     line-outs, line-rest, line-replaced    so a line is read alike, alone and in a text
-use Prim.Native.Nat.{ℕ, zero, suc, _+_, _-_, _≤_, _<_}
+use Prim.Native.Nat.{ℕ, suc, _+_, _-_, _<_}
 use mathlib.Core.Bool.{Bool, true, _&&_}
 use mathlib.Core.List.{List, [], _∷_, _++_, append-assoc, append-nil}
-use mathlib.Core.Path.{_≡_, refl, sym, ap, _∙_}
+use mathlib.Core.Path.{_≡_, refl, ap, _∙_}
 use native.Mathlib.Nat.{add-zero}
 use native.Mathlib.Omega.{arith}
 use borrow.Author.Tests.{lt-ltb, ltb-true, eqb-true}
 use lib.Dec.{ltb, eqb}
-use lib.ListN.{length, getD, take, drop}
+use lib.ListN.{length, take, drop}
 use lib.Seq.{drop-drop, take-at}
 use Rattle.common.proofs.Kit.{both, both-true, never}
-use Rattle.unicode.specs.Chars.{isChar, areChars}
+use Rattle.unicode.specs.Chars.{isChar}
 use Rattle.unicode.specs.Utf8.{encodeOf, begins, utf8StepOf}
 use Rattle.unicode.specs.Inner.{Ascii}
 use Rattle.unicode.specs.declared.utf8.Utf8Step.the-variants.{Char}

@@ -1,13 +1,13 @@
 -- The entries: what a record holds, what a step and a chunk answer, and what a chunk leaves in the lent places. Calls on chunks, one after
 -- the other.
-use Prim.Native.Nat.{ℕ, zero, suc, _+_}
+use Prim.Native.Nat.{ℕ, zero, suc, _+_, _≤_, _<_}
 use mathlib.Core.Bool.{cond}
 use mathlib.Core.List.{List, [], _∷_, _++_}
 use mathlib.Core.Path.{_≡_}
 use lib.Dec.{eqb}
-use lib.ListN.{length, getD, take}
+use lib.ListN.{length, getD, drop}
 use lib.Seq.{sets}
-use Rattle.common.specs.Answers.{roomRefusal, refusalIn, wroteIn}
+use Rattle.common.specs.Answers.{roomRefusal, refusalIn, writtenIn, wroteIn}
 use Rattle.utf8_lossy.specs.declared.Pending.{Pending}
 use Rattle.utf8_lossy.specs.declared.Pending.the-variants.{Nothing, One, Two, Three}
 use Rattle.utf8_lossy.specs.declared.Out.{Out}
@@ -72,6 +72,19 @@ decodeOf p bs out =
       places = sets out 0 (outsOf p bs);
     })
     (record { numbers = decodeRefusal bs out ∷ []; next = p; places = out })
+
+-- what a call leaves, without the definition's own words: of what was pending, the chunk and the places at entry, and what the call
+-- returned and left
+pub record DecodeLeaves (p bs out : List ℕ) (left : Outcome) : Type 0 where
+  -- n + 1 places for n bytes, an empty chunk needs none
+  pub refuses : 0 < length bs → length out ≤ length bs → left .numbers ≡ 8 ∷ []
+  pub takes : length bs < length out → refusalIn (left .numbers) ≡ 0
+  pub empty : length bs ≡ 0 → refusalIn (left .numbers) ≡ 0
+  -- a refusal changes nothing
+  pub nothing : 0 < refusalIn (left .numbers) → (left .next ≡ p) × (left .places ≡ out)
+  -- the number written is at most that of the places, and those past the written ones are as they were
+  pub fits : writtenIn (left .numbers) ≤ length out
+  pub past : drop (writtenIn (left .numbers)) (left .places) ≡ drop (writtenIn (left .numbers)) out
 
 -- by an answer's numbers, how many bytes U+FFFD stands for in what was written
 abbrev pub replacedIn : List ℕ → ℕ

@@ -9,7 +9,7 @@ ghost use mathlib.Core.List.{[], _∷_, _++_};
 ghost use Prim.Native.Nat.{_+_, _≤_, _<_};
 ghost use lib.ListN.{length};
 ghost use lib.Seq.{sets};
-ghost use Rattle.utf8_lossy.specs.Machine.{wholeOf, nextOf, freshOf, behind, turnOf, stepOf, finishOf};
+ghost use Rattle.utf8_lossy.specs.Machine.{wholeOf, nextOf, freshOf, behind, stepOf, finishOf};
 ghost use Rattle.utf8_lossy.specs.Decode.{pendingOf, charsOut, turnIn, outcome, decodeOf};
 
 // What the pending bytes and one byte more are: a character, part of one, or no start of any.
