@@ -7,7 +7,7 @@
 --     pending-short  a record holds three bytes at most
 --     pending-back   a record read back from its bytes: no two hold the same
 use Prim.Native.Nat.{ℕ, _+_, _*_, _%_, _≤_, _<_}
-use mathlib.Core.Bool.{true}
+use mathlib.Core.Bool.{true, cond}
 use mathlib.Core.List.{List, [], _∷_, _++_}
 use mathlib.Core.Path.{_≡_, refl}
 use native.Mathlib.Omega.{arith}
@@ -21,7 +21,7 @@ use Rattle.utf8_lossy.specs.declared.Kind.{Kind}
 use Rattle.utf8_lossy.specs.declared.Kind.the-variants.{Whole, More, Bad}
 use Rattle.utf8_lossy.specs.declared.Pending.{Pending}
 use Rattle.utf8_lossy.specs.declared.Pending.the-variants.{Nothing, One, Two, Three}
-use Rattle.utf8_lossy.specs.Machine.{wholeOf, onTail, nextOf, freshOf, turnOf, stepOf, outsOf, restOf, replacedOf, finishOf}
+use Rattle.utf8_lossy.specs.Machine.{wholeOf, onTail, leadThree, leadFour, nextOf, freshOf, turnOf, stepOf, outsOf, restOf, replacedOf, finishOf}
 use Rattle.utf8_lossy.specs.Decode.{pendingOf}
 
 -- ---- characters
@@ -71,43 +71,49 @@ replaced-le p (b ∷ bs) = omega (arith, taken (nextOf p b) p b, replaced-le (st
 
 -- ---- only characters
 -- what is right of a kind: a whole is a character
-abbrev Sound : Kind → Type 0
-Sound (Whole c) = isChar c ≡ true
-Sound More = ℕ
-Sound Bad = ℕ
+data Sound : Kind → Type 0 where
+  whole : {c : ℕ} → isChar c ≡ true → Sound (Whole c)
+  more : Sound More
+  bad : Sound Bad
 
 repl : isChar 0xFFFD ≡ true
 repl = char-high 0xFFFD (omega arith) (omega arith)
 
 whole-sound : (c : ℕ) → Sound (wholeOf c)
-whole-sound c = split Sound (isChar c) (λ h. h) (λ h. 0)
+whole-sound c = split Sound (isChar c) (λ h. whole h) (λ h. bad)
 
-tail-sound : (b : ℕ) (k : Kind) → Sound k → Sound (onTail b k)
-tail-sound b k s = split Sound (ltb b 0x80) (λ h. 0) (λ h. split Sound (ltb b 0xC0) (λ i. s) (λ i. 0))
+test-sound : (a n : ℕ) {k m : Kind} → Sound k → Sound m → Sound (cond (ltb a n) k m)
+test-sound a n s t = split Sound (ltb a n) (λ h. s) (λ h. t)
+
+tail-sound : (b : ℕ) {k : Kind} → Sound k → Sound (onTail b k)
+tail-sound b s = test-sound b _ bad (test-sound b _ s bad)
+
+three-sound : (v : ℕ) → Sound (leadThree v)
+three-sound v = test-sound v _ bad (test-sound v _ more (test-sound v _ bad more))
+
+four-sound : (v : ℕ) → Sound (leadFour v)
+four-sound v = test-sound v _ bad (test-sound v _ more bad)
 
 next-sound : (p : List ℕ) (b : ℕ) → Sound (nextOf p b)
 next-sound [] b =
-    split Sound (ltb b 0x80) (λ h. let z = ltb-true b 0x80 h in char-low b (omega arith))
-    (λ h. split Sound (ltb b 0xC2) (λ i. 0) (λ i. split Sound (ltb b 0xF5) (λ j. 0) (λ j. 0)))
+    split Sound (ltb b 0x80) (λ h. let z = ltb-true b 0x80 h in whole (char-low b (omega arith)))
+    (λ h. test-sound b _ bad (test-sound b _ more bad))
 next-sound (a ∷ []) b =
-    tail-sound b _ (split Sound (ltb a 0xE0) (λ h. char-low (a % 32 * 64 + b % 64) (omega arith))
-    (λ h. split Sound (ltb a 0xF0)
-    (λ i. split Sound (ltb (a % 16 * 64 + b % 64) 0x20) (λ j. 0)
-    (λ j. split Sound (ltb (a % 16 * 64 + b % 64) 0x360) (λ k. 0) (λ k. split Sound (ltb (a % 16 * 64 + b % 64) 0x380) (λ l. 0) (λ l. 0))))
-    (λ i. split Sound (ltb (a % 8 * 64 + b % 64) 0x10) (λ j. 0) (λ j. split Sound (ltb (a % 8 * 64 + b % 64) 0x110) (λ k. 0) (λ k. 0)))))
-next-sound (a ∷ b ∷ []) c = tail-sound c _ (split Sound (ltb a 0xF0) (λ h. whole-sound _) (λ h. 0))
-next-sound (a ∷ b ∷ c ∷ p) d = tail-sound d _ (whole-sound _)
+    tail-sound b (test-sound a _ (whole (char-low (a % 32 * 64 + b % 64) (omega arith)))
+    (test-sound a _ (three-sound (a % 16 * 64 + b % 64)) (four-sound (a % 8 * 64 + b % 64))))
+next-sound (a ∷ b ∷ []) c = tail-sound c (test-sound a _ (whole-sound (a % 16 * 4096 + b % 64 * 64 + c % 64)) more)
+next-sound (a ∷ b ∷ c ∷ p) d = tail-sound d (whole-sound (a % 8 * 262144 + b % 64 * 4096 + c % 64 * 64 + d % 64))
 
-fresh-chars : (k : Kind) (b : ℕ) → Sound k → areChars (freshOf k b .out) ≡ true
-fresh-chars (Whole c) b s = both s refl
-fresh-chars More b s = refl
-fresh-chars Bad b s = both repl refl
+fresh-chars : {k : Kind} (b : ℕ) → Sound k → areChars (freshOf k b .out) ≡ true
+fresh-chars b (whole s) = both s refl
+fresh-chars b more = refl
+fresh-chars b bad = both repl refl
 
-turn-chars : (k : Kind) (p : List ℕ) (b : ℕ) → Sound k → areChars (turnOf k p b .out) ≡ true
-turn-chars (Whole c) p b s = both s refl
-turn-chars More p b s = refl
-turn-chars Bad [] b s = both repl refl
-turn-chars Bad (a ∷ p) b s = both repl (fresh-chars (nextOf [] b) b (next-sound [] b))
+turn-chars : {k : Kind} (p : List ℕ) (b : ℕ) → Sound k → areChars (turnOf k p b .out) ≡ true
+turn-chars p b (whole s) = both s refl
+turn-chars p b more = refl
+turn-chars [] b bad = both repl refl
+turn-chars (a ∷ p) b bad = both repl (fresh-chars b (next-sound [] b))
 
 chars-append : (cs ds : List ℕ) → areChars cs ≡ true → areChars ds ≡ true → areChars (cs ++ ds) ≡ true
 chars-append [] ds s t = t
@@ -116,7 +122,7 @@ chars-append (c ∷ cs) ds s t = let p = both-true (isChar c) (areChars cs) s in
 pub are-chars : (p bs : List ℕ) → areChars (outsOf p bs) ≡ true
 are-chars p [] = refl
 are-chars p (b ∷ bs) =
-    chars-append (stepOf p b .out) _ (turn-chars (nextOf p b) p b (next-sound p b)) (are-chars (stepOf p b .pending) bs)
+    chars-append (stepOf p b .out) _ (turn-chars p b (next-sound p b)) (are-chars (stepOf p b .pending) bs)
 
 pub finish-chars : (p : List ℕ) → areChars (finishOf p) ≡ true
 finish-chars [] = refl

@@ -146,9 +146,9 @@ lead-more a g h =
 -- ---- by the number of pending bytes
 none-pending : (b : ℕ) → Right (b ∷ []) (nextOf [] b)
 none-pending b =
-    test (b ∷ []) b 0x80 _ _ (λ h. (char-low b (omega arith), sym (row1 b h)))
-    (λ g. test (b ∷ []) b 0xC2 _ _ (λ h. dead (b ∷ []) (λ r u. let z = lead-in u g in omega arith))
-    (λ i. test (b ∷ []) b 0xF5 _ _ (λ h. lead-more b i h) (λ h. dead (b ∷ []) (λ r u. let z = lead-in u g in omega arith))))
+    test (b ∷ []) b _ _ _ (λ h. (char-low b (omega arith), sym (row1 b h)))
+    (λ g. test (b ∷ []) b _ _ _ (λ h. dead (b ∷ []) (λ r u. let z = lead-in u g in omega arith))
+    (λ i. test (b ∷ []) b _ _ _ (λ h. lead-more b i h) (λ h. dead (b ∷ []) (λ r u. let z = lead-in u g in omega arith))))
 
 module _ (a b : ℕ) where
   no-tail2 : (Utf8Tail b → ⊥) → Dead (a ∷ b ∷ [])
@@ -169,13 +169,13 @@ module _ (a b : ℕ) where
   one-pending g h =
       let l = a ∷ b ∷ [] in
       tail l b _ (λ x. no-tail2 (λ t. omega arith)) (λ x. no-tail2 (λ t. omega arith))
-      (λ x y. test l a 0xE0 _ _ (λ k. whole2 g k (x, y))
-      (λ i. test l a 0xF0 _ _
-      (λ k. test l (v3 a b) 0x20 _ _ (λ n. dead l (λ r u. let z = two-in u .low3 i k in omega arith))
-      (λ n. test l (v3 a b) 0x360 _ _ (λ m. more3 i k (x, y) n (λ z. omega arith))
-      (λ m. test l (v3 a b) 0x380 _ _ (λ o. dead l (λ r u. let z = two-in u .gap3 i k m in omega arith)) (λ o. more3 i k (x, y) n (λ z. o)))))
-      (λ j. test l (v4 a b) 0x10 _ _ (λ n. dead l (λ r u. let z = two-in u .low4 j in omega arith))
-      (λ n. test l (v4 a b) 0x110 _ _ (λ m. initial l 0x80 (0x80 ∷ []) (omega arith) (rule4 a b 0x80 0x80 j h (x, y) n m least least))
+      (λ x y. test l a _ _ _ (λ k. whole2 g k (x, y))
+      (λ i. test l a _ _ _
+      (λ k. test l (v3 a b) _ _ _ (λ n. dead l (λ r u. let z = two-in u .low3 i k in omega arith))
+      (λ n. test l (v3 a b) _ _ _ (λ m. more3 i k (x, y) n (λ z. omega arith))
+      (λ m. test l (v3 a b) _ _ _ (λ o. dead l (λ r u. let z = two-in u .gap3 i k m in omega arith)) (λ o. more3 i k (x, y) n (λ z. o)))))
+      (λ j. test l (v4 a b) _ _ _ (λ n. dead l (λ r u. let z = two-in u .low4 j in omega arith))
+      (λ n. test l (v4 a b) _ _ _ (λ m. initial l 0x80 (0x80 ∷ []) (omega arith) (rule4 a b 0x80 0x80 j h (x, y) n m least least))
       (λ m. dead l (λ r u. let z = two-in u .high4 j in omega arith))))))
 
 module _ (a b c : ℕ) (p : Two a b) where
@@ -195,7 +195,7 @@ module _ (a b c : ℕ) (p : Two a b) where
   two-pending g =
       let l = a ∷ b ∷ c ∷ [] in
       tail l c _ (λ x. dead l (λ r u. let z = three-in u in omega arith)) (λ x. dead l (λ r u. let z = three-in u in omega arith))
-      (λ x y. test l a 0xF0 _ _ (λ k. whole3 g k (x, y))
+      (λ x y. test l a _ _ _ (λ k. whole3 g k (x, y))
       (λ k. initial l 0x80 [] (omega arith) (rule4 a b c 0x80 k (p .high) (p .tail) (p .low4 k) (p .high4 k) (x, y) least)))
 
   whole4 : (d : ℕ) → 0xF0 ≤ a → Utf8Tail c → Utf8Tail d → Right (a ∷ b ∷ c ∷ d ∷ [])
