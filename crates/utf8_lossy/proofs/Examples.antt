@@ -1,5 +1,5 @@
 -- The Standard's own examples, section 3.9, tables 3-8 to 3-11: bytes, the characters that they are read as, and how many of the bytes
--- U+FFFD stands for.
+-- are replaced.
 use mathlib.Core.Path.{refl}
 use mathlib.Core.Logic.{inl}
 use mathlib.Core.List.{[], _∷_}

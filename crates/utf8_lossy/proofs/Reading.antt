@@ -1,7 +1,7 @@
 -- What the machine puts out is `Lossy`, for every cut into chunks.
 -- Idea: no encoding is the start of another (`same-first`, by unicode's step). So where the pending bytes p and a byte b begin no
 -- encoding, p is the maximal subpart; `table` (proofs/Table.antt) says of each state what p and b are.
---     decoded          a state p and the bytes behind it: the characters, and how many bytes U+FFFD stands for
+--     decoded          a state p and the bytes behind it: the characters, and how many bytes are replaced
 --     state-kept       what is pending is part of a character, or nothing
 --     only             `Lossy` gives one list of characters, and one number, for each list of bytes
 --     lossy-chars      the characters of a reading are characters
@@ -112,7 +112,7 @@ module _ (p : List ℕ) (b : ℕ) (s : List ℕ) (dead : Dead (p ++ (b ∷ [])))
   longest m o n q r (inr e) h = omega arith
 
 -- ---- one turn
--- from a turn on: all that is put out, and for how many bytes U+FFFD stands in it
+-- from a turn on: all that is put out, and how many bytes are replaced in it
 abbrev after : Turn → List ℕ → List ℕ
 after t bs = t .out ++ outsOf (t .pending) bs ++ finishOf (restOf (t .pending) bs)
 
@@ -229,7 +229,7 @@ replaced-append p [] cs = omega arith
 replaced-append p (b ∷ bs) cs = omega (arith, replaced-append (stepOf p b .pending) bs cs)
 
 -- ---- calls
-abbrev Accepted : List ℕ → List ℕ → Outcome → Type 0
+abbrev pub Accepted : List ℕ → List ℕ → Outcome → Type 0
 Accepted p bs x =
     (wroteIn (x .numbers) (x .places) ≡ outsOf p bs) × (replacedIn (x .numbers) ≡ replacedOf p bs) × (x .next ≡ restOf p bs)
 

@@ -1,11 +1,11 @@
 -- How much comes out, and that it is characters, whatever is pending: each law holds of one turn, by its kind, and so of a chunk.
 --     room           a chunk and the finish put out at most a character a byte, and one for what was pending
 --     room-one       so a chunk of n bytes puts out n + 1 characters at most
---     replaced-le    U+FFFD stands for no more bytes than came and were pending
+--     replaced-le    no more bytes are replaced than came and were pending
 --     are-chars      all that a chunk puts out is characters, and so is what a finish puts out
 --     more-short     where a byte is held, fewer than three were
 --     pending-short  a record holds three bytes at most
---     pending-back   a record read back from its bytes: no two hold the same
+--     pending-back, chars-back, counted-back   a record, a step's characters and an answer read back from what they list: no two list alike
 use Prim.Native.Nat.{ℕ, _+_, _*_, _%_, _≤_, _<_}
 use mathlib.Core.Bool.{true, cond}
 use mathlib.Core.List.{List, [], _∷_, _++_}
@@ -21,8 +21,12 @@ use Rattle.utf8_lossy.specs.declared.Kind.{Kind}
 use Rattle.utf8_lossy.specs.declared.Kind.the-variants.{Whole, More, Bad}
 use Rattle.utf8_lossy.specs.declared.Pending.{Pending}
 use Rattle.utf8_lossy.specs.declared.Pending.the-variants.{Nothing, One, Two, Three}
+use Rattle.utf8_lossy.specs.declared.Out.{Out}
+use Rattle.utf8_lossy.specs.declared.Out.the-variants.{Nothing as NoChar, One as OneChar, Two as TwoChars}
+use Rattle.utf8_lossy.specs.declared.Counted.{Counted}
+use Rattle.utf8_lossy.specs.declared.Counted.the-variants.{Counts, Refused}
 use Rattle.utf8_lossy.specs.Machine.{wholeOf, onTail, leadThree, leadFour, nextOf, freshOf, turnOf, stepOf, outsOf, restOf, replacedOf, finishOf}
-use Rattle.utf8_lossy.specs.Decode.{pendingOf}
+use Rattle.utf8_lossy.specs.Decode.{pendingOf, charsOut, countedNumbers}
 
 -- ---- characters
 held-fresh : (k : Kind) (b : ℕ) → length (freshOf k b .out) + length (finishOf (freshOf k b .pending)) ≡ 1
@@ -53,7 +57,7 @@ room p (b ∷ bs) =
 pub room-one : (p bs : List ℕ) → length (outsOf p bs) ≤ length bs + 1
 room-one p bs = omega (arith, room p bs, finish-one p)
 
--- ---- bytes that U+FFFD stands for
+-- ---- bytes that are replaced
 taken-fresh : (k : Kind) (b : ℕ) → freshOf k b .replaced + length (freshOf k b .pending) ≤ 1
 taken-fresh (Whole c) b = omega arith
 taken-fresh More b = omega arith
@@ -169,3 +173,24 @@ pending-back Nothing = refl
 pending-back (One a) = refl
 pending-back (Two a b) = refl
 pending-back (Three a b c) = refl
+
+-- what lists these characters, and these numbers
+abbrev pub outOf : List ℕ → Out
+outOf [] = NoChar
+outOf (c ∷ []) = OneChar c
+outOf (c ∷ d ∷ cs) = TwoChars c d
+
+pub chars-back : (o : Out) → outOf (charsOut o) ≡ o
+chars-back NoChar = refl
+chars-back (OneChar c) = refl
+chars-back (TwoChars c d) = refl
+
+abbrev pub countedOf : List ℕ → Counted
+countedOf [] = Refused 0
+countedOf (n ∷ []) = Refused n
+countedOf (n ∷ k ∷ []) = Refused n
+countedOf (n ∷ k ∷ m ∷ ns) = Counts k m
+
+pub counted-back : (a : Counted) → countedOf (countedNumbers a) ≡ a
+counted-back (Counts k m) = refl
+counted-back (Refused n) = refl

@@ -172,10 +172,12 @@ module _ (a b : ℕ) where
       (λ x y. test l a _ _ _ (λ k. whole2 g k (x, y))
       (λ i. test l a _ _ _
       (λ k. test l (v3 a b) _ _ _ (λ n. dead l (λ r u. let z = two-in u .low3 i k in omega arith))
-      (λ n. test l (v3 a b) _ _ _ (λ m. more3 i k (x, y) n (λ z. omega arith))
-      (λ m. test l (v3 a b) _ _ _ (λ o. dead l (λ r u. let z = two-in u .gap3 i k m in omega arith)) (λ o. more3 i k (x, y) n (λ z. o)))))
+      (λ n. test l (v3 a b) _ _ _ (λ m. more3 i k (x, y) (omega arith) (λ z. omega arith))
+      (λ m. test l (v3 a b) _ _ _ (λ o. dead l (λ r u. let z = two-in u .gap3 i k (omega arith) in omega arith))
+      (λ o. more3 i k (x, y) (omega arith) (λ z. omega arith)))))
       (λ j. test l (v4 a b) _ _ _ (λ n. dead l (λ r u. let z = two-in u .low4 j in omega arith))
-      (λ n. test l (v4 a b) _ _ _ (λ m. initial l 0x80 (0x80 ∷ []) (omega arith) (rule4 a b 0x80 0x80 j h (x, y) n m least least))
+      (λ n. test l (v4 a b) _ _ _
+      (λ m. initial l 0x80 (0x80 ∷ []) (omega arith) (rule4 a b 0x80 0x80 j h (x, y) (omega arith) (omega arith) least least))
       (λ m. dead l (λ r u. let z = two-in u .high4 j in omega arith))))))
 
 module _ (a b c : ℕ) (p : Two a b) where

@@ -37,7 +37,8 @@ abbrev pub turnIn : Stepped → Turn
 turnIn r = record { pending = pendingOf (r .next); out = charsOut (r .out); replaced = r .replaced }
 
 -- ---- a chunk
--- the answer by numbers: 0, how many characters were written and how many bytes U+FFFD stands for in them; or the refusal's number
+-- the answer by numbers: 0, how many characters were written and how many bytes are replaced in them; or the refusal's number
+-- "Where an answer is an enum, a definition lists this paper's number and values for each case."
 abbrev pub countedNumbers : Counted → List ℕ
 countedNumbers (Counts chars replaced) = 0 ∷ chars ∷ replaced ∷ []
 countedNumbers (Refused n) = n ∷ []
@@ -57,7 +58,7 @@ abbrev pub placesForBytes : ℕ → ℕ
 placesForBytes zero = 0
 placesForBytes (suc n) = suc n + 1
 
--- the number of the refusal, and 0 for none: 8 for too few places
+-- the number of the refusal, and 0 for none: "8 too few free places."
 abbrev pub decodeRefusal : List ℕ → List ℕ → ℕ
 decodeRefusal bs out = roomRefusal (placesForBytes (length bs)) (length out)
 
@@ -80,13 +81,14 @@ pub record DecodeLeaves (p bs out : List ℕ) (left : Outcome) : Type 0 where
   pub refuses : 0 < length bs → length out ≤ length bs → left .numbers ≡ 8 ∷ []
   pub takes : length bs < length out → refusalIn (left .numbers) ≡ 0
   pub empty : length bs ≡ 0 → refusalIn (left .numbers) ≡ 0
-  -- a refusal changes nothing
+  -- "1, 2, 7, 8, 9, 10 .. change nothing."
   pub nothing : 0 < refusalIn (left .numbers) → (left .next ≡ p) × (left .places ≡ out)
-  -- the number written is at most that of the places, and those past the written ones are as they were
+  -- the number written is at most that of the places
   pub fits : writtenIn (left .numbers) ≤ length out
+  -- "Places past the filled .. ones are unchanged"
   pub past : drop (writtenIn (left .numbers)) (left .places) ≡ drop (writtenIn (left .numbers)) out
 
--- by an answer's numbers, how many bytes U+FFFD stands for in what was written
+-- by an answer's numbers, how many bytes are replaced in what was written
 abbrev pub replacedIn : List ℕ → ℕ
 replacedIn ns = getD ns 2 0
 
@@ -97,7 +99,7 @@ joined [] = []
 joined (bs ∷ chunks) = bs ++ joined chunks
 
 -- accepted calls on these chunks, one after the other, each over the record that the one before it left and any places: from the record
--- s on they write these characters in all, in which U+FFFD stands for so many bytes, and leave the record u
+-- s on they write these characters in all, in which so many bytes are replaced, and leave the record u
 pub data Calls : Pending → List (List ℕ) → List ℕ → ℕ → Pending → Type 0 where
   none : {s : Pending} → Calls s [] [] 0 s
   call : (s : Pending) {u : Pending} (bs out places : List ℕ) (r : Decoded) {chunks : List (List ℕ)} {cs : List ℕ} {n : ℕ}

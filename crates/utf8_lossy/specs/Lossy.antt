@@ -1,4 +1,4 @@
--- Any bytes as characters, and how many of the bytes are no text: after the Unicode Standard, section 3.9, D93b and 'U+FFFD
+-- Any bytes as characters, and how many of the bytes are replaced: after the Unicode Standard, section 3.9, D93b and 'U+FFFD
 -- Substitution of Maximal Subparts', over the whole list of bytes. The definitions are in our words, and not the Standard's.
 -- It is a relation: `decoded` (proofs/Reading.antt) says that every list of bytes has a reading, `only` that it has no other.
 use Prim.Native.Nat.{ℕ, _+_, _≤_}
@@ -28,7 +28,8 @@ pub record MaximalSubpart (l p : List ℕ) : Type 0 where
   pub piece : Piece p
   pub longest : (q r : List ℕ) → Piece q → l ≡ q ++ r → length q ≤ length p
 
--- the bytes l are read as these characters, and so many of the bytes are no text: one U+FFFD stands for each maximal subpart
+-- the bytes l are read as these characters, and so many of the bytes are replaced: one U+FFFD for each maximal subpart. A U+FFFD whose
+-- encoding stands in l is a character, and replaces nothing
 pub data Lossy : List ℕ → List ℕ → ℕ → Type 0 where
   done : Lossy [] [] 0
   -- a character, where its encoding stands

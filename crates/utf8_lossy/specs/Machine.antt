@@ -34,7 +34,7 @@ nextOf (a ∷ []) b =
 nextOf (a ∷ b ∷ []) c = onTail c (cond (ltb a 0xF0) (wholeOf (a % 16 * 4096 + b % 64 * 64 + c % 64)) More)
 nextOf (a ∷ b ∷ c ∷ l) d = onTail d (wholeOf (a % 8 * 262144 + b % 64 * 4096 + c % 64 * 64 + d % 64))
 
--- the pending bytes after a byte, the characters put out, and how many bytes U+FFFD stands for in them
+-- the pending bytes after a byte, the characters put out, and how many bytes are replaced in them by U+FFFD
 pub record Turn : Type 0 where
   pub pending : List ℕ
   pub out : List ℕ
@@ -60,7 +60,7 @@ turnOf Bad (a ∷ p) b = behind (length (a ∷ p)) (freshOf (nextOf [] b) b)
 abbrev pub stepOf : List ℕ → ℕ → Turn
 stepOf p b = turnOf (nextOf p b) p b
 
--- a chunk: what it puts out, what is pending behind it, and how many bytes U+FFFD stands for in what it puts out
+-- a chunk: what it puts out, what is pending behind it, and how many bytes are replaced in what it puts out
 abbrev pub outsOf : List ℕ → List ℕ → List ℕ
 outsOf p [] = []
 outsOf p (b ∷ bs) = stepOf p b .out ++ outsOf (stepOf p b .pending) bs
@@ -73,7 +73,7 @@ abbrev pub replacedOf : List ℕ → List ℕ → ℕ
 replacedOf p [] = 0
 replacedOf p (b ∷ bs) = stepOf p b .replaced + replacedOf (stepOf p b .pending) bs
 
--- the end: U+FFFD for what is pending, and so for as many bytes as that has
+-- the end: U+FFFD for what is pending, which replaces as many bytes as are pending
 abbrev pub finishOf : List ℕ → List ℕ
 finishOf [] = []
 finishOf (a ∷ p) = 0xFFFD ∷ []

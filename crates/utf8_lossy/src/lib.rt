@@ -34,14 +34,14 @@ pub enum Pending {
     Three(u8, u8, u8),
 }
 
-// What a byte comes to: the record after it, the characters put out, and how many bytes U+FFFD stands for in them.
+// What a byte comes to: the record after it, the characters put out, and how many bytes are replaced in them.
 pub struct Stepped {
     pub next: Pending,
     pub out: Out,
     pub replaced: usize,
 }
 
-// How many characters were written and how many bytes U+FFFD stands for in them, or the number of a refusal.
+// How many characters were written and how many bytes are replaced in them, or the number of a refusal.
 pub enum Counted {
     Counts(usize, usize),
     Refused(u32),
@@ -146,7 +146,7 @@ fn fourth(a: u8, b: u8, c: u8, d: u8) -> Kind
     Kind::Bad
 }
 
-// The byte where nothing is pending, behind U+FFFD for the n bytes that were.
+// The byte where nothing is pending, behind U+FFFD for the n bytes that were. Inner: it asks for three at most.
 fn again(b: u8, n: usize) -> Stepped
     requires { ⌜ n ≤ 3 ⌝ }
     ensures { λ r. ⌜ turnIn r ≡ behind n (freshOf (nextOf [] b) b) ⌝ }
@@ -190,7 +190,7 @@ fn put(o: Out, out: &mut [u32], k: usize) -> usize
 }
 
 impl Pending {
-    // How many bytes are pending: at the end of a text, U+FFFD stands for so many. Total.
+    // How many bytes are pending: so many a finish replaces. Total.
     pub fn len(self) -> usize
         ensures { λ r. ⌜ r ≡ length (pendingOf self) ⌝ }
     {
@@ -202,6 +202,7 @@ impl Pending {
         }
     }
 
+    // What the pending bytes and the byte are.
     fn kind(self, b: u8) -> Kind
         ensures { λ r. ⌜ r ≡ nextOf (pendingOf self) b ⌝ }
     {
@@ -226,7 +227,7 @@ impl Pending {
         }
     }
 
-    // The byte does not go on with what is pending.
+    // What a byte comes to that does not go on with what is pending. Inner: it asks for such a byte.
     fn broken(self, b: u8) -> Stepped
         requires { ⌜ nextOf (pendingOf self) b ≡ Kind.Bad ⌝ }
         ensures { λ r. ⌜ turnIn r ≡ stepOf (pendingOf self) b ⌝ }
