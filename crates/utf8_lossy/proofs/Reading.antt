@@ -5,12 +5,13 @@
 --     state-kept       what is pending is part of a character, or nothing
 --     only             `Lossy` gives one list of characters, and one number, for each list of bytes
 --     lossy-chars      the characters of a reading are characters
---     lossy-le         of l bytes at most l are replaced
+--     lossy-le         no more bytes are replaced than there are
 --     outs-append, rest-append, replaced-append    a chunk in two parts
 --     accepted         what an accepted call of `decode` wrote, counted and left
 --     calls-are        the same of calls one after the other: as if the chunks were one
 --     calls-decoded    so the calls and the finish read the joined chunks
 --     cut-free         two ways to cut the same bytes give the same characters and the same number
+--     text             the encoding of characters, where nothing is pending, is the characters
 --     valid            what is valid UTF-8 is read as `charsOf` reads it, and nothing is replaced
 use Prim.Native.Nat.{ℕ, _+_, _≤_}
 use mathlib.Core.Path.{_≡_, refl, sym, ap, subst, _∙_}

@@ -2,7 +2,7 @@
 --     room           a chunk and the finish put out at most a character a byte, and one for what was pending
 --     room-one       so a chunk of n bytes puts out n + 1 characters at most
 --     replaced-le    no more bytes are replaced than came and were pending
---     are-chars      all that a chunk puts out is characters, and so is what a finish puts out
+--     are-chars      all that a chunk puts out is characters; `finish-chars` of a finish
 --     more-short     where a byte is held, fewer than three were
 --     pending-short  a record holds three bytes at most
 --     pending-back, chars-back, counted-back   a record, a step's characters and an answer read back from what they list: no two list alike

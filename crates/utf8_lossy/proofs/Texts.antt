@@ -1,6 +1,7 @@
 -- What bytes of known kinds come to, for who goes on from here: a whole character, bytes below 80, and a line end.
 --     char-decoded   the encoding of a character, where nothing is pending, is the character
---     step-bytes     where unicode's step finds a character, its encoding stands
+--     step-bytes     where unicode's step finds a character, its encoding stands; `step-rest` with what is behind it, and `step-char`,
+--                    `step-next`
 --     step-low       a byte below 80, where nothing is pending, is itself
 --     low-decoded    bytes below 80, where nothing is pending, are themselves; `ascii-decoded` by their places
 --     step-ends, low-ends    a byte below 80 ends what is pending, whatever it is: U+FFFD for it, and then itself
