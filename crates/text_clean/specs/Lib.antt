@@ -3,4 +3,6 @@
 -- `Inner` serves inner functions and proofs alone: no entry's contract cites it.
 pub mod Text
 pub mod Clean
+pub mod Calls
+pub mod Promise
 pub mod Inner
