@@ -1,6 +1,10 @@
--- The proofs of this crate: a run of bytes in two parts, which loops go by (`Append`); how many places it needs, and that its counts
--- fit (`Room`).
+-- The laws of this crate, in the order in which they lean on each other.
 pub mod Append
 pub mod Room
+pub mod Stored
 pub mod Ready
-pub mod Turns
+pub mod Reading
+pub mod Lines
+pub mod Listed
+pub mod Valid
+pub mod Promise
