@@ -8,3 +8,4 @@ pub mod Lines
 pub mod Listed
 pub mod Valid
 pub mod Promise
+pub mod Examples
