@@ -27,8 +27,9 @@ use Rattle.text_clean.specs.declared.Cleaner.{Cleaner}
 use Rattle.text_clean.specs.Text.{Passed, joined, passedOf}
 use Rattle.text_clean.specs.Clean.{Outcome, outcome, refused, done, refusalOf, placesForBytes, charsIn, cleanOf, lastOf, finishOf}
 use Rattle.text_clean.specs.Calls.{Call, clean, finish, callOf, Answered, Seen, numbersOf, outputOf, readIn, replacedIn, droppedIn, lostIn, totalOf, accepts, acceptedOf, chunksOf, FinishedOnce}
-use Rattle.text_clean.specs.Inner.{noTally, courseOf, gives}
+use Rattle.text_clean.specs.Inner.{noTally}
 use Rattle.text_clean.proofs.Append.{passed-is, encode-append, passed-append}
+use Rattle.text_clean.proofs.Room.{bytes-room, last-room}
 use Rattle.text_clean.proofs.Reading.{endOf, wholeFrom}
 
 is-no : (b : Bool) → not b ≡ true → b ≡ false
@@ -210,86 +211,84 @@ module _ (p : List ℕ) (o : Options) (lines : Bool) where
   pub moved : {q r : List ℕ} {t u : Text} (bs : List ℕ) (seen : List Answered) → q ≡ r → t ≡ u → Whole q t bs seen → Whole r u bs seen
   moved {r = r} {t = t} bs seen e f w = subst (λ (u : Text). Whole r u bs seen) f (subst (λ (q : List ℕ). Whole q t bs seen) e w)
 
-module _ (bytes-room : (p : List ℕ) (o : Options) (lines : Bool) (r : Cleaner) (bs : List ℕ) →
-    length (gives p o lines (courseOf r noTally) bs) ≤ placesForBytes (length bs))
-    (last-room : (r : Cleaner) (p : List ℕ) (o : Options) (eof : Bool) → length (encodeAll (lastOf r p o eof .out)) ≤ 8) where
-  -- an accepted call has room for what it writes
-  fits : (r : Cleaner) (c : Call) → accepts c ≡ true → length (encodeAll (passedBy r c .out)) ≤ length (lent c)
-  fits r (clean p o lines bs places) h =
-      let n = length bs in
-      let a = both-true (accepted p) (eqb n 0 || leb (3 * n + 13) (length places)) h .1 in
-      let b : not (ltb (length places) (placesForBytes n)) ≡ true = sym (room-is n (length places)) ∙ a in
-      omega (arith, bytes-room p o lines r bs, ltb-false (length places) (placesForBytes n) (is-no _ b))
-  fits r (finish p o eof places) h =
-      let b : not (ltb (length places) 8) ≡ true = sym (leb-is 8 (length places)) ∙ both-true (accepted p) (leb 8 (length places)) h .1 in
-      omega (arith, last-room r p o eof, ltb-false (length places) 8 (is-no _ b))
+-- ---- the calls
+-- an accepted call has room for what it writes
+fits : (r : Cleaner) (c : Call) → accepts c ≡ true → length (encodeAll (passedBy r c .out)) ≤ length (lent c)
+fits r (clean p o lines bs places) h =
+    let n = length bs in
+    let a = both-true (accepted p) (eqb n 0 || leb (3 * n + 13) (length places)) h .1 in
+    let b : not (ltb (length places) (placesForBytes n)) ≡ true = sym (room-is n (length places)) ∙ a in
+    omega (arith, bytes-room p o lines r noTally bs, ltb-false (length places) (placesForBytes n) (is-no _ b))
+fits r (finish p o eof places) h =
+    let b : not (ltb (length places) 8) ≡ true = sym (leb-is 8 (length places)) ∙ both-true (accepted p) (leb 8 (length places)) h .1 in
+    omega (arith, last-room r p o eof, ltb-false (length places) 8 (is-no _ b))
 
-  module _ (p : List ℕ) (o : Options) (lines : Bool) where
-    abbrev Queued : List Call → List Answered → Type 0
-    Queued cs seen = (r : Cleaner) → Seen r cs seen → FinishedOnce p o lines (acceptedOf cs) →
-        Whole p o lines (pendingOf (r .pending)) (r .text) (chunksOf (acceptedOf cs)) seen
+module _ (p : List ℕ) (o : Options) (lines : Bool) where
+  abbrev Queued : List Call → List Answered → Type 0
+  Queued cs seen = (r : Cleaner) → Seen r cs seen → FinishedOnce p o lines (acceptedOf cs) →
+      Whole p o lines (pendingOf (r .pending)) (r .text) (chunksOf (acceptedOf cs)) seen
 
-    -- a chunk, and what follows
-    clean-queued : (bs places : List ℕ) (cs : List Call) (r : Cleaner) (s : Answered) (seen : List Answered) →
-        accepts (clean p o lines bs places) ≡ true →
-        outcome (s .returned) (s .places) ≡ outcomeBy true r (clean p o lines bs places) →
-        Queued cs seen → Seen (s .returned .next) cs seen → FinishedOnce p o lines (acceptedOf cs) →
-        Whole p o lines (pendingOf (r .pending)) (r .text) (bs ++ chunksOf (acceptedOf cs)) (s ∷ seen)
-    clean-queued bs places cs r s seen b e ih g h =
-        let q : List ℕ = pendingOf (r .pending) in
-        let ys : List ℕ = chunksOf (acceptedOf cs) in
-        let x : Passed = passedOf p o lines (r .text) (charsIn r bs) in
-        let w = moved p o lines ys seen (ap (λ (y : Outcome). y .pending) e) (ap (λ (y : Outcome). y .text) e)
-        (ih (s .returned .next) g h) in
-        let a = whole-append p o lines q (r .text) bs ys in
-        let m : length (outsOf q (bs ++ ys)) ≡ length (outsOf q bs) + length (outsOf (restOf q bs) ys) =
-        ap length (outs-append q bs ys) ∙ length-append (outsOf q bs) (outsOf (restOf q bs) ys) in
-        let n = ap (λ (l : List ℕ). length (decoder.finishOf l)) (rest-append q bs ys) in
-        let k = ap length (rest-append q bs ys) in
-        same (s ∷ seen)
-        (add s (length (charsIn r bs)) (replacedOf q bs) (restOf q bs) x places e (fits r (clean p o lines bs places) b) seen w)
-        (ap (λ (y : Passed). y .out) (sym a)) (omega (arith, m, n)) (omega (arith, replaced-append q bs ys, k))
-        (ap (λ (y : Passed). y .dropped) (sym a)) (ap (λ (y : Passed). y .lost) (sym a))
+  -- a chunk, and what follows
+  clean-queued : (bs places : List ℕ) (cs : List Call) (r : Cleaner) (s : Answered) (seen : List Answered) →
+      accepts (clean p o lines bs places) ≡ true →
+      outcome (s .returned) (s .places) ≡ outcomeBy true r (clean p o lines bs places) →
+      Queued cs seen → Seen (s .returned .next) cs seen → FinishedOnce p o lines (acceptedOf cs) →
+      Whole p o lines (pendingOf (r .pending)) (r .text) (bs ++ chunksOf (acceptedOf cs)) (s ∷ seen)
+  clean-queued bs places cs r s seen b e ih g h =
+      let q : List ℕ = pendingOf (r .pending) in
+      let ys : List ℕ = chunksOf (acceptedOf cs) in
+      let x : Passed = passedOf p o lines (r .text) (charsIn r bs) in
+      let w = moved p o lines ys seen (ap (λ (y : Outcome). y .pending) e) (ap (λ (y : Outcome). y .text) e)
+      (ih (s .returned .next) g h) in
+      let a = whole-append p o lines q (r .text) bs ys in
+      let m : length (outsOf q (bs ++ ys)) ≡ length (outsOf q bs) + length (outsOf (restOf q bs) ys) =
+      ap length (outs-append q bs ys) ∙ length-append (outsOf q bs) (outsOf (restOf q bs) ys) in
+      let n = ap (λ (l : List ℕ). length (decoder.finishOf l)) (rest-append q bs ys) in
+      let k = ap length (rest-append q bs ys) in
+      same (s ∷ seen)
+      (add s (length (charsIn r bs)) (replacedOf q bs) (restOf q bs) x places e (fits r (clean p o lines bs places) b) seen w)
+      (ap (λ (y : Passed). y .out) (sym a)) (omega (arith, m, n)) (omega (arith, replaced-append q bs ys, k))
+      (ap (λ (y : Passed). y .dropped) (sym a)) (ap (λ (y : Passed). y .lost) (sym a))
 
-    finish-queued : (places : List ℕ) (r : Cleaner) (s : Answered) (seen : List Answered) → accepts (finish p o true places) ≡ true →
-        outcome (s .returned) (s .places) ≡ outcomeBy true r (finish p o true places) → Listed [] 0 0 0 0 seen →
-        Whole p o lines (pendingOf (r .pending)) (r .text) [] (s ∷ seen)
-    finish-queued places r s seen b e w =
-        let q : List ℕ = pendingOf (r .pending) in
-        let x : Passed = lastOf r p o true in
-        same (s ∷ seen)
-        (add s (length (decoder.finishOf q)) (length q) [] x places e (fits r (finish p o true places) b) seen w)
-        (append-nil (x .out)) (omega arith) (omega arith) (omega arith) (omega arith)
+  finish-queued : (places : List ℕ) (r : Cleaner) (s : Answered) (seen : List Answered) → accepts (finish p o true places) ≡ true →
+      outcome (s .returned) (s .places) ≡ outcomeBy true r (finish p o true places) → Listed [] 0 0 0 0 seen →
+      Whole p o lines (pendingOf (r .pending)) (r .text) [] (s ∷ seen)
+  finish-queued places r s seen b e w =
+      let q : List ℕ = pendingOf (r .pending) in
+      let x : Passed = lastOf r p o true in
+      same (s ∷ seen)
+      (add s (length (decoder.finishOf q)) (length q) [] x places e (fits r (finish p o true places) b) seen w)
+      (append-nil (x .out)) (omega arith) (omega arith) (omega arith) (omega arith)
 
-    by-call : (b : Bool) (c : Call) (cs : List Call) (r : Cleaner) (s : Answered) (seen : List Answered) → accepts c ≡ b →
-        outcome (s .returned) (s .places) ≡ outcomeBy b r c → Queued cs seen → Seen (s .returned .next) cs seen →
-        FinishedOnce p o lines (leftBy b c cs) →
-        Whole p o lines (pendingOf (r .pending)) (r .text) (chunksOf (leftBy b c cs)) (s ∷ seen)
-    unfolding chunksOf
-    by-call true (clean page options l bs places) cs r s seen b e ih g h =
-        clean-queued bs places cs r s seen
-        (subst (λ (x : List ℕ). accepts (clean x o lines bs places) ≡ true) (h .0) b)
-        (subst (λ (x : Bool). outcome (s .returned) (s .places) ≡ outcomeBy true r (clean p o x bs places)) (h .2)
-        (subst (λ (x : Options). outcome (s .returned) (s .places) ≡ outcomeBy true r (clean p x l bs places)) (h .1)
-        (subst (λ (x : List ℕ). outcome (s .returned) (s .places) ≡ outcomeBy true r (clean x options l bs places)) (h .0) e))) ih g (h .3)
-    by-call true (finish page options eof places) cs r s seen b e ih g h =
-        subst (λ (l : List Call). Whole p o lines (pendingOf (r .pending)) (r .text) (chunksOf l) (s ∷ seen)) (sym (h .3))
-        (finish-queued places r s seen
-        (subst (λ (x : List ℕ). accepts (finish x o true places) ≡ true) (h .0) b)
-        (subst (λ (x : Bool). outcome (s .returned) (s .places) ≡ outcomeBy true r (finish p o x places)) (h .2)
-        (subst (λ (x : Options). outcome (s .returned) (s .places) ≡ outcomeBy true r (finish p x eof places)) (h .1)
-        (subst (λ (x : List ℕ). outcome (s .returned) (s .places) ≡ outcomeBy true r (finish x options eof places)) (h .0) e)))
-        (none-listed cs (s .returned .next) seen g (h .3)))
-    by-call false c cs r s seen b e ih g h =
-        pass s r (refusalBy c) (lent c) e seen
-        (moved p o lines (chunksOf (acceptedOf cs)) seen (ap (λ (y : Outcome). y .pending) e) (ap (λ (y : Outcome). y .text) e)
-        (ih (s .returned .next) g h))
+  by-call : (b : Bool) (c : Call) (cs : List Call) (r : Cleaner) (s : Answered) (seen : List Answered) → accepts c ≡ b →
+      outcome (s .returned) (s .places) ≡ outcomeBy b r c → Queued cs seen → Seen (s .returned .next) cs seen →
+      FinishedOnce p o lines (leftBy b c cs) →
+      Whole p o lines (pendingOf (r .pending)) (r .text) (chunksOf (leftBy b c cs)) (s ∷ seen)
+  unfolding chunksOf
+  by-call true (clean page options l bs places) cs r s seen b e ih g h =
+      clean-queued bs places cs r s seen
+      (subst (λ (x : List ℕ). accepts (clean x o lines bs places) ≡ true) (h .0) b)
+      (subst (λ (x : Bool). outcome (s .returned) (s .places) ≡ outcomeBy true r (clean p o x bs places)) (h .2)
+      (subst (λ (x : Options). outcome (s .returned) (s .places) ≡ outcomeBy true r (clean p x l bs places)) (h .1)
+      (subst (λ (x : List ℕ). outcome (s .returned) (s .places) ≡ outcomeBy true r (clean x options l bs places)) (h .0) e))) ih g (h .3)
+  by-call true (finish page options eof places) cs r s seen b e ih g h =
+      subst (λ (l : List Call). Whole p o lines (pendingOf (r .pending)) (r .text) (chunksOf l) (s ∷ seen)) (sym (h .3))
+      (finish-queued places r s seen
+      (subst (λ (x : List ℕ). accepts (finish x o true places) ≡ true) (h .0) b)
+      (subst (λ (x : Bool). outcome (s .returned) (s .places) ≡ outcomeBy true r (finish p o x places)) (h .2)
+      (subst (λ (x : Options). outcome (s .returned) (s .places) ≡ outcomeBy true r (finish p x eof places)) (h .1)
+      (subst (λ (x : List ℕ). outcome (s .returned) (s .places) ≡ outcomeBy true r (finish x options eof places)) (h .0) e)))
+      (none-listed cs (s .returned .next) seen g (h .3)))
+  by-call false c cs r s seen b e ih g h =
+      pass s r (refusalBy c) (lent c) e seen
+      (moved p o lines (chunksOf (acceptedOf cs)) seen (ap (λ (y : Outcome). y .pending) e) (ap (λ (y : Outcome). y .text) e)
+      (ih (s .returned .next) g h))
 
-    -- ---- THE LIST
-    pub listed : (calls : List Call) (seen : List Answered) → Queued calls seen
-    unfolding acceptedOf
-    listed [] [] r g h = absurd h
-    listed [] (s ∷ seen) r g h = absurd g
-    listed (c ∷ cs) [] r g h = absurd g
-    listed (c ∷ cs) (s ∷ seen) r g h =
-        by-call (accepts c) c cs r s seen refl (g .0 ∙ call-is r c) (listed cs seen) (g .1) h
+  -- ---- THE LIST
+  pub listed : (calls : List Call) (seen : List Answered) → Queued calls seen
+  unfolding acceptedOf
+  listed [] [] r g h = absurd h
+  listed [] (s ∷ seen) r g h = absurd g
+  listed (c ∷ cs) [] r g h = absurd g
+  listed (c ∷ cs) (s ∷ seen) r g h =
+      by-call (accepts c) c cs r s seen refl (g .0 ∙ call-is r c) (listed cs seen) (g .1) h

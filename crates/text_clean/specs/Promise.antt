@@ -84,8 +84,8 @@ Promised =
     (r : Cleaner) → Fresh r → (seen : List Answered) → Seen r calls seen →
     Promise page options lines (bytesOf calls) (outputOf seen) (totalsOf seen)
 
--- ---- so the way in which the bytes are cut into chunks, and the calls that are refused, change nothing: two such lists of calls with equal
--- accepted bytes have equal outputs, and count the same, dropped characters and lost line ends included
+-- ---- so how the bytes are cut into chunks, and which calls are refused, changes nothing: two such lists of calls with equal accepted
+-- bytes have equal outputs, and count the same, dropped characters and lost line ends included
 abbrev pub CutFree : Type 0
 CutFree =
     (page : List ℕ) → accepted page ≡ true → (options : Options) (lines : Bool) →
