@@ -3,6 +3,7 @@ pub mod Append
 pub mod Room
 pub mod Stored
 pub mod Ready
+pub mod Turns
 pub mod Reading
 pub mod Lines
 pub mod Listed

@@ -41,11 +41,16 @@ fn block(bytes: &[u8], at: usize) -> bool
     good
 }
 
-// A place up to which all bytes are plain: by blocks, then one by one.
+// A place up to which all bytes are plain: none where no ASCII stands, else by blocks and then one by one.
 fn ascii_end(bytes: &[u8], from: usize) -> usize
     requires { ⌜ from ≤ length (now bytes) ⌝ }
     ensures { λ r. ⌜ PlainTo (now (bytes .entry)) from r ⌝ }
 {
+    if from < bytes.len() {
+        if 0x80 <= bytes[from] {
+            return from;
+        }
+    }
     let mut i = from;
     while 16 <= bytes.len() - i {
         if !block(bytes, i) {
@@ -62,7 +67,7 @@ fn ascii_end(bytes: &[u8], from: usize) -> usize
     i
 }
 
-// A run of plain characters from a place on. Blocks are looked at where ASCII stands. Inner: asks for a place of the bytes, and for a gap.
+// A run of plain characters from a place on. Inner: asks for a place of the bytes, and for a gap.
 pub fn plain_run(bytes: &[u8], from: usize, gap: Range) -> PlainEnd
     requires { ⌜ from ≤ length (now bytes) ⌝ }
     requires { ⌜ Gap gap ⌝ }
@@ -72,15 +77,11 @@ pub fn plain_run(bytes: &[u8], from: usize, gap: Range) -> PlainEnd
     let mut chars = 0;
     let mut last = 0;
     loop {
-        if at < bytes.len() {
-            if bytes[at] < 0x80 {
-                let end = ascii_end(bytes, at);
-                if at < end {
-                    chars = chars + (end - at);
-                    last = bytes[end - 1] as u32;
-                    at = end;
-                }
-            }
+        let end = ascii_end(bytes, at);
+        if at < end {
+            chars = chars + (end - at);
+            last = bytes[end - 1] as u32;
+            at = end;
         }
         let Utf8Step::Char(c, next) = utf8_step(bytes, at) else {
             return PlainEnd { at, chars, last };

@@ -23,23 +23,17 @@ Inv-loop2 bytes from i₀ i = PlainTo bytes from i
 abbrev μ-loop2 : tie.MeasureT-loop2
 μ-loop2 bytes from i₀ i = length bytes - i
 
-returns : tie.Need-returns Inv-loop μ-loop Inv-loop2 μ-loop2
-returns c =
-    let l = c .before .before .before .before in
-    let p = c .prefix in
-    to-more _ _ _ _ (l .loop .inv) (omega arith) (omega (arith, l .loop .inv .low, p .ensures .0)) (p .ensures .1)
-
 loop-again : tie.Need-loop-again Inv-loop μ-loop Inv-loop2 μ-loop2
 loop-again c =
     let l = c .before .before .before in
-    to-more _ _ _ _ (l .loop .inv) (omega arith) (omega (arith, l .loop .inv .low)) (c .before .block .ensures (not-false _ (c .if1 .left)))
+    to-more _ _ _ _ (l .loop .inv) (omega arith) (omega (arith, l .loop .inv .low)) (c .before .block .ensures (not-false _ (c .if3 .left)))
 
 loop2-again : tie.Need-loop2-again Inv-loop μ-loop Inv-loop2 μ-loop2
 loop2-again c =
     let p = c .before in
     let l = p .before .before .before in
-    let bs = now (l .before .before .before .before .args .bytes) in
-    to-more _ _ _ _ (l .loop2 .inv) (omega arith) (omega arith) (one-byte bs (l .loop2 .i) (sym (p .is-plain .ensures) ∙ not-false _ (c .if2 .left)))
+    let bs = now (l .before .before .before .before .before .args .bytes) in
+    to-more _ _ _ _ (l .loop2 .inv) (omega arith) (omega arith) (one-byte bs (l .loop2 .i) (sym (p .is-plain .ensures) ∙ not-false _ (c .if4 .left)))
 
 pub ascii-end-spec : {M : Type 1} → statement M
 ascii-end-spec =
@@ -49,12 +43,11 @@ ascii-end-spec =
     μ-loop
     Inv-loop2
     μ-loop2
-    (λ c. to-here _ _ (c .before .pre))
+    (λ c. search needs)
+    (λ c. to-here _ _ (c .before .before .before .before .pre))
+    (λ c. to-here _ _ (c .before .before .pre))
     (λ c. omega (arith, c .loop .inv .low))
     (λ c κs. omega (arith, c .before .loop .inv .low))
-    (λ c κs. omega (arith, c .before .before .before .loop .inv .low))
-    (λ c. omega (arith, c .before .before .before .before .loop .inv .low, c .prefix .ensures .0))
-    returns
     (λ c. omega (arith, c .before .before .before .loop .inv .low))
     (λ c. omega (arith, c .before .before .before .loop .inv .low))
     loop-again
