@@ -1,5 +1,6 @@
 -- Characters encoded into places, one run after the other: what is asked before, and what is known after.
 --     encode-append    the encoding of joined characters is the joined encodings
+--     chars-append     joined characters are characters
 --     asks-one ..      what `write_utf8` asks and leaves, as of a list of one character
 --     asks-first       room for joined characters is room for the first of them
 --     asks-then        and, once these are stored, for the others
@@ -26,6 +27,11 @@ chars-parts [] ds h = (refl, h)
 chars-parts (c ∷ cs) ds h =
     let p = both-true (isChar c) (areChars (cs ++ ds)) h in
     let q = chars-parts cs ds (p .1) in (both (p .0) (q .0), q .1)
+
+pub chars-append : (cs ds : List ℕ) → areChars cs ≡ true → areChars ds ≡ true → areChars (cs ++ ds) ≡ true
+chars-append [] ds h g = g
+chars-append (c ∷ cs) ds h g =
+    let p = both-true (isChar c) (areChars cs) h in both (p .0) (chars-append cs ds (p .1) g)
 
 -- cs are characters, and there is room for them in l from `at` on
 abbrev pub Asks : List ℕ → List ℕ → ℕ → Type 0

@@ -5,13 +5,12 @@
 --     run-begin           none passed
 --     run-bytes           plain bytes behind it: each is a character, and its own encoding
 --     run-char            a character of a gap behind it
-use Prim.Native.Nat.{ℕ, zero, suc, _+_, _-_, _≤_, _<_}
+use Prim.Native.Nat.{ℕ, suc, _+_, _-_, _≤_, _<_}
 use mathlib.Core.Path.{_≡_, refl, sym, ap, _∙_}
 use mathlib.Core.Bool.{Bool, true, false, _&&_, _||_}
 use mathlib.Core.List.{List, [], _∷_, _++_, append-nil}
 use mathlib.Core.Logic.{⊎-elim}
 use native.Mathlib.Omega.{arith}
-use native.Mathlib.Nat.{le-of-suc-le-suc}
 use lib.Dec.{eqb, leb}
 use lib.ListN.{length, getD, take, drop, length-append, List·getD-append}
 use lib.Seq.{take-add, drop-drop, getD-append-add}
@@ -32,7 +31,6 @@ use Rattle.stretch.proofs.Clear.{sought-kept}
 use Rattle.stretch.proofs.Parts.{part-length, part-at}
 use Rattle.text_input_parts.specs.Appended.{lastOf}
 use Rattle.text_input_parts.proofs.Last.{last-append}
-use Rattle.text_clean.specs.declared.plain.PlainEnd.{PlainEnd}
 use Rattle.text_clean.specs.Inner.{plainByte, PlainBytes, PlainTo, PlainRun}
 use Rattle.text_clean.proofs.Stored.{encode-append}
 
@@ -174,7 +172,7 @@ module _ (bs : List ℕ) (f : ℕ) where
     run-bytes t p h =
         let n = part-length bs at t (p .on) (p .low) in
         let low : (x : ℕ) → x < length (part at t bs) → plainByte (getD (part at t bs) x 0) ≡ true =
-            λ x l. rw (part-at bs at t (p .on) x (omega arith)) (p .each (at + x) (omega arith) (omega arith)) in
+        λ x l. rw (part-at bs at t (p .on) x (omega arith)) (p .each (at + x) (omega arith) (omega arith)) in
         let k : at + (t - 1 - at) ≡ t - 1 = omega arith in
         rw n at
         (behind at chars last t (getD bs (t - 1) 0) (part at t bs) g (omega arith) (p .low)

@@ -1,7 +1,7 @@
 -- `plain_run` meets its contract: at the head of its loop the bytes before the one at hand are a run of plain characters. Plain bytes
 -- behind it make it longer, and then a character of the gap.
 use denote.Ref.{now}
-use Prim.Native.Nat.{ℕ, _-_, _≤_}
+use Prim.Native.Nat.{_-_, _≤_}
 use mathlib.Core.Path.{_≡_, sym, _∙_}
 use mathlib.Core.Bool.{true, not, _&&_}
 use mathlib.Core.Logic.{⊎-elim}
@@ -37,7 +37,7 @@ behind c =
     (λ w. (
       omega (arith, w .2, e .ensures .on),
       rw (w .2, w .3, w .4)
-      (run-bytes (now (s .args .bytes)) (s .args .from) (s .args .gap) (s .pre .1) (l .loop .at) (l .loop .chars) (l .loop .last) (l .loop .inv) (e .result) (e .ensures) (w .0 .taken)),
+          (run-bytes (now (s .args .bytes)) (s .args .from) (s .args .gap) (s .pre .1) (l .loop .at) (l .loop .chars) (l .loop .last) (l .loop .inv) (e .result) (e .ensures) (w .0 .taken)),
     ))
     (λ w. (omega (arith, w .1), rw (w .1, w .2, w .3) (l .loop .inv)))
     (c .if1 .came)
