@@ -5,7 +5,7 @@
 --     plain-take, plain-passed     a plain character, and a run of them
 --     plain-chars                  they are characters
 --     line-take, crlf-passed       0A, and 0D 0A
-use Prim.Native.Nat.{ℕ, suc, _+_, _<_}
+use Prim.Native.Nat.{ℕ, suc, _<_}
 use mathlib.Core.Bool.{Bool, true, false, not, true≢false, _&&_, _||_, and-false}
 use mathlib.Core.List.{List, [], _∷_, _++_}
 use mathlib.Core.Logic.{_⊎_, inl, inr, ⊎-elim}

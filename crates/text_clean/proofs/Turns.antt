@@ -8,8 +8,8 @@
 --     plain-whole, line-whole, char-whole    a run of plain characters, a line end, one character
 --     byte-moves                   a turn over one byte
 use Prim.Native.Nat.{ℕ, suc, _+_, _-_, _≤_, _<_}
-use mathlib.Core.Bool.{Bool, true, false, cond, _&&_}
-use mathlib.Core.List.{List, [], _∷_, _++_, append-nil}
+use mathlib.Core.Bool.{Bool, true, false, _&&_}
+use mathlib.Core.List.{List, [], _∷_, append-nil}
 use mathlib.Core.Path.{_≡_, refl, sym, ap, subst, _∙_}
 use native.Mathlib.Numerals.{add-one}
 use native.Mathlib.Omega.{arith}
@@ -42,7 +42,6 @@ use Rattle.text_clean.specs.declared.text.Text.{Text}
 use Rattle.text_clean.specs.declared.text.Tally.{Tally}
 use Rattle.text_clean.specs.declared.text.Taken.{Taken}
 use Rattle.text_clean.specs.declared.plain.PlainEnd.{PlainEnd}
-use Rattle.text_clean.specs.declared.Cleaner.{Cleaner}
 use Rattle.text_clean.specs.declared.Moved.{Moved}
 use Rattle.text_clean.specs.declared.Ran.{Ran}
 use Rattle.text_clean.specs.Text.{Passed, takeOf, joined, passedOf}
