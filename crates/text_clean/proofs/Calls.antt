@@ -198,14 +198,15 @@ module _ (r : Cleaner) (p : List ℕ) (o : Options) (eof : Bool) (places : List 
               × Fits (takenBy (a .at) (a .tally) 0 (closedOf (a .text) eof) .tally)
           close-asks =
               let g = given in
-              rw (g .0, g .1)
-              (rw length-sets (omega (arith, last-room r p o eof, last-length)),
-              record {
-                read = omega (arith, finish-short rest);
-                replaced = omega (arith, pending-short (r .pending));
-                dropped = omega (arith, finish-short rest, passed-dropped p o false (r .text) cs);
-                lost = omega (arith, finish-short rest, passed-lost p o false (r .text) cs, bit-le (r .text .cr));
-              })
+              rw (g .0, g .1) (
+                rw length-sets (omega (arith, last-room r p o eof, last-length)),
+                record {
+                  read = omega (arith, finish-short rest);
+                  replaced = omega (arith, pending-short (r .pending));
+                  dropped = omega (arith, finish-short rest, passed-dropped p o false (r .text) cs);
+                  lost = omega (arith, finish-short rest, passed-lost p o false (r .text) cs, bit-le (r .text .cr));
+                },
+              )
 
           pub finished : (b : Taken) (after : List ℕ) → b ≡ takenBy (a .at) (a .tally) 0 (closedOf (a .text) eof) →
               after ≡ sets mid (a .at) (encodeAll (closedOf (a .text) eof .out)) → (c : Counts) → c ≡ countsOf (b .at) (b .tally) →

@@ -87,10 +87,13 @@ module _ (p : List ℕ) (o : Options) (lines : Bool) (t : Text) (k : ℕ) (tally
   pub one-asks : (x : Out) (c : ℕ) → x ≡ One c → Asks (charsOut x) → AsksOne c
   one-asks x c e a =
       let b = subst (λ (y : Out). Asks (charsOut y)) e a in
-      let q = passed-one p o lines t c in
-      (both-true (isChar c) true (b .chars) .0,
-      (subst (λ (y : Passed). k + length (encodeAll (y .out)) ≤ length places) q (b .room),
-      subst (λ (y : Passed). Fits (takenBy k tally 1 y .tally)) q (b .fits)))
+      let q = passed-one p o lines t c in (
+        both-true (isChar c) true (b .chars) .0,
+        (
+          subst (λ (y : Passed). k + length (encodeAll (y .out)) ≤ length places) q (b .room),
+          subst (λ (y : Passed). Fits (takenBy k tally 1 y .tally)) q (b .fits),
+        ),
+      )
 
   pub one-takes : (x : Out) (c : ℕ) → x ≡ One c → (r : Taken) (after : List ℕ) → TakesOne c r after → Takes (charsOut x) r after
   one-takes x c e r after h =
@@ -118,37 +121,46 @@ module _ (p : List ℕ) (o : Options) (lines : Bool) (t : Text) (k : ℕ) (tally
     both-asks =
         let b = subst (λ (y : Out). Asks p o lines t k tally places (charsOut y)) e a in
         let s = both-true (isChar c) (isChar d && true) (b .chars) in
-        let n = subst (λ (y : Passed). k + length (encodeAll (y .out)) ≤ length places) two-is (b .room) in
-        (s .0, both-true (isChar d) true (s .1) .0, omega (arith, n, two-length),
-        subst (λ (y : Passed). Fits (takenBy k tally 2 y .tally)) two-is (b .fits))
+        let n = subst (λ (y : Passed). k + length (encodeAll (y .out)) ≤ length places) two-is (b .room) in (
+          s .0,
+          both-true (isChar d) true (s .1) .0,
+          omega (arith, n, two-length),
+          subst (λ (y : Passed). Fits (takenBy k tally 2 y .tally)) two-is (b .fits),
+        )
 
     pub first-asks : AsksOne p o lines t k tally places c
     first-asks =
         let b = both-asks in
-        let f = b .3 in
-        (b .0,
-        (omega (arith, b .2),
-        record {
-          read = omega (arith, f .read);
-          replaced = f .replaced;
-          dropped = omega (arith, f .dropped);
-          lost = omega (arith, f .lost);
-        }))
+        let f = b .3 in (
+          b .0,
+          (
+            omega (arith, b .2),
+            record {
+              read = omega (arith, f .read);
+              replaced = f .replaced;
+              dropped = omega (arith, f .dropped);
+              lost = omega (arith, f .lost);
+            },
+          ),
+        )
 
     pub second-asks : (first : Taken) (mid : List ℕ) → TakesOne p o lines t k tally places c first mid →
         AsksOne p o lines (first .text) (first .at) (first .tally) mid d
     second-asks first mid h =
         let b = both-asks in
         let f = b .3 in
-        rw (h .0, h .1)
-        (b .1,
-        (rw length-sets (b .2),
-        record {
-          read = omega (arith, f .read);
-          replaced = f .replaced;
-          dropped = omega (arith, f .dropped);
-          lost = omega (arith, f .lost);
-        }))
+        rw (h .0, h .1) (
+          b .1,
+          (
+            rw length-sets (b .2),
+            record {
+              read = omega (arith, f .read);
+              replaced = f .replaced;
+              dropped = omega (arith, f .dropped);
+              lost = omega (arith, f .lost);
+            },
+          ),
+        )
 
   pub two-takes : (first : Taken) (mid : List ℕ) → TakesOne p o lines t k tally places c first mid →
       (r : Taken) (after : List ℕ) → TakesOne p o lines (first .text) (first .at) (first .tally) mid d r after →
@@ -156,10 +168,11 @@ module _ (p : List ℕ) (o : Options) (lines : Bool) (t : Text) (k : ℕ) (tally
   two-takes first mid h r after =
       rw (h .0, h .1)
       (λ g.
-      subst (λ (y : Out). Takes p o lines t k tally places (charsOut y) r after) (sym e)
-      (g .0 ∙ taken-is (omega (arith, two-length)) refl (tally-is (omega arith) refl (omega arith) (omega arith)) ∙ ap (takenBy k tally 2) (sym two-is),
-      g .1 ∙ sym (sets-append (encodeAll (u .out)) (encodeAll (v .out)) places k) ∙ ap (sets places k) (sym (encode-append (u .out) (v .out)))
-      ∙ ap (λ (y : Passed). sets places k (encodeAll (y .out))) (sym two-is)))
+      subst (λ (y : Out). Takes p o lines t k tally places (charsOut y) r after) (sym e) (
+        g .0 ∙ taken-is (omega (arith, two-length)) refl (tally-is (omega arith) refl (omega arith) (omega arith)) ∙ ap (takenBy k tally 2) (sym two-is),
+        g .1 ∙ sym (sets-append (encodeAll (u .out)) (encodeAll (v .out)) places k) ∙ ap (sets places k) (sym (encode-append (u .out) (v .out)))
+            ∙ ap (λ (y : Passed). sets places k (encodeAll (y .out))) (sym two-is),
+      ))
 
 -- ---- one byte
 module _ (p : List ℕ) (o : Options) (lines : Bool) (s : Course) (b k : ℕ) (x : Turn) (e : x ≡ stepOf (s .pending) b) where
@@ -208,9 +221,10 @@ module _ (p : List ℕ) (o : Options) (lines : Bool) (s : Course) (b k : ℕ) (x
       (_≡_ {A = Reached} (record { written = r .at; course = record { pending = x .pending; text = r .text; tally = r .tally } })
       (ranBy p o lines k s (b ∷ [])))
       × (after ≡ sets places k (gives p o lines s (b ∷ [])))
-  byte-ran q h places r after g =
-      (rw (g .0, h) (reached-is (ap (λ (l : List ℕ). k + length l) (sym byte-gives)) (sym byte-leads)),
-      g .1 ∙ ap (sets places k) (sym byte-gives))
+  byte-ran q h places r after g = (
+    rw (g .0, h) (reached-is (ap (λ (l : List ℕ). k + length l) (sym byte-gives)) (sym byte-leads)),
+    g .1 ∙ ap (sets places k) (sym byte-gives),
+  )
 
 newline-bytes : encodeAll (0x0A ∷ []) ≡ 0x0A ∷ []
 newline-bytes = rw (row1 0x0A (omega arith))
@@ -368,34 +382,38 @@ module _ (p : List ℕ) (o : Options) (lines : Bool) (s : Course) (bytes : List 
           newline : (w : ℕ) → w ≡ 1 → getD bytes i 0 ≡ 0x0A →
               (cs : List ℕ) × (length cs ≡ w) × Whole (i + w) cs (lineEnd (s .text) lines)
           newline w e a =
-              rw e
-              (0x0A ∷ [], refl,
-              record {
-                on = omega arith;
-                low = omega arith;
-                nothing = none-is (s .pending) nothing;
-                decoded = subst (λ (l : List ℕ). Comes [] l (0x0A ∷ []) [] 0) (sym (part-one bytes i here ∙ ap (λ (b : ℕ). b ∷ []) a)) (refl, refl, refl);
-                comes = newline-passed p o lines (s .text) (g .0) (g .1);
-              })
+              rw e (
+                0x0A ∷ [],
+                refl,
+                record {
+                  on = omega arith;
+                  low = omega arith;
+                  nothing = none-is (s .pending) nothing;
+                  decoded = subst (λ (l : List ℕ). Comes [] l (0x0A ∷ []) [] 0) (sym (part-one bytes i here ∙ ap (λ (b : ℕ). b ∷ []) a)) (refl, refl, refl);
+                  comes = newline-passed p o lines (s .text) (g .0) (g .1);
+                },
+              )
 
           crlf : (w : ℕ) → w ≡ 2 → getD bytes i 0 ≡ 0x0D → getD bytes (i + 1) 0 ≡ 0x0A →
               (cs : List ℕ) × (length cs ≡ w) × Whole (i + w) cs (lineEnd (s .text) lines)
           crlf w e a b =
               let m : i + 1 < length bytes =
-                  by-lt (i + 1) (length bytes) (λ h. h) (λ h. absurd (omega (arith, sym b ∙ List·getD-eq-default bytes 0 h))) in
+              by-lt (i + 1) (length bytes) (λ h. h) (λ h. absurd (omega (arith, sym b ∙ List·getD-eq-default bytes 0 h))) in
               let n : i + 2 - i ≡ 2 = omega arith in
               let d : getD bytes (suc i) 0 ≡ 0x0A = rw add-one at b in
               let q : part i (i + 2) bytes ≡ 0x0D ∷ 0x0A ∷ [] =
-                  rw (n, drop-cons bytes i 0 here, drop-cons bytes (suc i) 0 (omega arith), a, d) in
-              rw e
-              (0x0D ∷ 0x0A ∷ [], refl,
-              record {
-                on = omega arith;
-                low = omega arith;
-                nothing = none-is (s .pending) nothing;
-                decoded = subst (λ (l : List ℕ). Comes [] l (0x0D ∷ 0x0A ∷ []) [] 0) (sym q) (refl, refl, refl);
-                comes = crlf-passed p o lines (s .text) (g .0) (g .1);
-              })
+              rw (n, drop-cons bytes i 0 here, drop-cons bytes (suc i) 0 (omega arith), a, d) in
+              rw e (
+                0x0D ∷ 0x0A ∷ [],
+                refl,
+                record {
+                  on = omega arith;
+                  low = omega arith;
+                  nothing = none-is (s .pending) nothing;
+                  decoded = subst (λ (l : List ℕ). Comes [] l (0x0D ∷ 0x0A ∷ []) [] 0) (sym q) (refl, refl, refl);
+                  comes = crlf-passed p o lines (s .text) (g .0) (g .1);
+                },
+              )
 
       module _ (w : ℕ) (e : w ≡ lineEndAt bytes i) (some : 0 < w) where
         pub line-room : Room → k < length out

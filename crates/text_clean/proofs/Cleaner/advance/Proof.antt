@@ -47,8 +47,12 @@ module _ (m : tie.Then3) where
   -- the place after it is a number of 64 bits
   run-fits : s .args .k + (run .plain-run .result .at - s .args .i) < 18446744073709551616
   run-fits =
-      omega (arith, run-room,
-      part-length (s .args .bytes .now) (s .args .i) (run .plain-run .result .at) (omega (arith, m .if3 .taken)) (run .plain-run .ensures .low), s .good)
+      omega (
+        arith,
+        run-room,
+        part-length (s .args .bytes .now) (s .args .i) (run .plain-run .result .at) (omega (arith, m .if3 .taken)) (run .plain-run .ensures .low),
+        s .good,
+      )
 
 add-t39 : tie.Need-add-t39
 add-t39 c = record { fits = run-fits (c .before .before .before .before .before .before) }
@@ -123,10 +127,11 @@ take-requires c κs =
     let u = m .before .before in
     let y = u .before .before .before .before in
     let s = entry (y .before) in
-    let a = s .args in
-    (s .pre .0,
-    char-asks (a .page .now) (a .options) (a .lines) (courseOf (a .self) (a .tally)) (a .bytes .now) (a .i) (a .out .now) (a .k) (s .pre .1 .0)
-    (nothing y) _ _ (sym (u .utf8-step .ensures) ∙ m .c .given .1) (s .pre .1 .1 .1 .0) (s .pre .1 .1 .1 .1))
+    let a = s .args in (
+      s .pre .0,
+      char-asks (a .page .now) (a .options) (a .lines) (courseOf (a .self) (a .tally)) (a .bytes .now) (a .i) (a .out .now) (a .k) (s .pre .1 .0)
+          (nothing y) _ _ (sym (u .utf8-step .ensures) ∙ m .c .given .1) (s .pre .1 .1 .1 .0) (s .pre .1 .1 .1 .1),
+    )
 
 next-gap-requires : tie.Need-next-gap-requires
 next-gap-requires c κs = entry (c .before .before .before .before .before .before .before .before .before .before .before .before .before .before) .pre .1 .1 .0
@@ -146,10 +151,13 @@ returns-3 c =
 take-byte-requires : tie.Need-take-byte-requires
 take-byte-requires c κs =
     let s = entry (c .before .before .before) in
-    let a = s .args in
-    (s .pre .0,
-    (byte-room (a .page .now) (a .options) (a .lines) (courseOf (a .self) (a .tally)) (a .bytes .now) (a .i) (a .out .now) (a .k) (s .pre .1 .0) (s .pre .1 .1 .1 .0),
-    byte-fits (a .page .now) (a .options) (a .lines) (courseOf (a .self) (a .tally)) (a .bytes .now) (a .i) (a .out .now) (a .k) (s .pre .1 .0) (s .pre .1 .1 .1 .1)))
+    let a = s .args in (
+      s .pre .0,
+      (
+        byte-room (a .page .now) (a .options) (a .lines) (courseOf (a .self) (a .tally)) (a .bytes .now) (a .i) (a .out .now) (a .k) (s .pre .1 .0) (s .pre .1 .1 .1 .0),
+        byte-fits (a .page .now) (a .options) (a .lines) (courseOf (a .self) (a .tally)) (a .bytes .now) (a .i) (a .out .now) (a .k) (s .pre .1 .0) (s .pre .1 .1 .1 .1),
+      ),
+    )
 
 next-fits : (s : tie.Start) → s .args .i + 1 < 18446744073709551616
 next-fits s = omega (arith, s .pre .1 .0, s .good)

@@ -28,10 +28,13 @@ run-requires c κs =
     let s = entry (e .before .before .before) in
     let a = s .args in
     let h = right (e .before .before) in
-    let g = sym (e .before .is-short .ensures) ∙ e .if2 .left in
-    (h,
-    (clean-room (a .self) (a .page .now) (a .options) (a .lines) (a .bytes .now) (a .out .now) h g,
-    clean-counts (a .self) (a .page .now) (a .options) (a .lines) (a .bytes .now) (a .out .now) h g (omega (arith, s .good))))
+    let g = sym (e .before .is-short .ensures) ∙ e .if2 .left in (
+      h,
+      (
+        clean-room (a .self) (a .page .now) (a .options) (a .lines) (a .bytes .now) (a .out .now) h g,
+        clean-counts (a .self) (a .page .now) (a .options) (a .lines) (a .bytes .now) (a .out .now) h g (omega (arith, s .good)),
+      ),
+    )
 
 returns-3 : tie.Need-returns-3
 returns-3 c =
