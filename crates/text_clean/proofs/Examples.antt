@@ -3,7 +3,7 @@
 -- chunk of n bytes is lent the 3 × n + 13 places that it needs, an empty one none, and a finish 8. Numbers are hexadecimal, counts
 -- decimal.
 --     examples    the table
-use Prim.Native.Nat.{ℕ, _+_, _*_}
+use Prim.Native.Nat.{ℕ}
 use mathlib.Core.Bool.{Bool, true, false}
 use mathlib.Core.List.{List, [], _∷_, map}
 use mathlib.Core.Path.{_≡_, refl}

@@ -5,7 +5,8 @@
 --     noNewline       no number of a list is 0A
 --     lossy-plain     bytes without 0A are read as characters without 0A
 --     passed-plain    such characters go alike, with lines and without
---     Lines, cut      the lines of a list of bytes; cut-lines: they are `linesOf`
+--     whole-line      a line's bytes, and what follows; whole-last: the last ones
+--     Lines, cut      the lines of a list of bytes; lines-line, lines-last: they are `linesOf`
 --     lines-are       THE LINES
 --     texts-only      the cleaned texts are one list of bytes
 use Prim.Native.Nat.{ℕ}
@@ -31,18 +32,18 @@ use Rattle.text_clean.specs.declared.text.Text.{Text}
 use Rattle.text_clean.specs.Text.{Passed, freshText, steppedOf, lineOf, takeOf, joined, passedOf}
 use Rattle.text_clean.specs.Promise.{CleanedTexts, none, more, intoFirst, linesOf}
 use Rattle.text_clean.proofs.Append.{encode-append, passed-append, passed-one}
-use Rattle.text_clean.proofs.Reading.{charsOf, endOf, wholeFrom, textOut, whole-out, text-is, text-only}
+use Rattle.text_clean.proofs.Reading.{charsOf, joined-assoc, endOf, wholeFrom, textOut, textPassed, whole-text, text-is, text-only}
 
 -- ---- no 0A
 abbrev pub noNewline : List ℕ → Bool
 noNewline [] = true
 noNewline (b ∷ bs) = not (eqb b 0x0A) && noNewline bs
 
-is-no : (b : Bool) → not b ≡ true → b ≡ false
+pub is-no : (b : Bool) → not b ≡ true → b ≡ false
 is-no true h = never h
 is-no false h = refl
 
-plain-parts : (xs ys : List ℕ) → noNewline (xs ++ ys) ≡ true → (noNewline xs ≡ true) × (noNewline ys ≡ true)
+pub plain-parts : (xs ys : List ℕ) → noNewline (xs ++ ys) ≡ true → (noNewline xs ≡ true) × (noNewline ys ≡ true)
 plain-parts [] ys h = (refl, h)
 plain-parts (x ∷ xs) ys h =
     let p = both-true (not (eqb x 0x0A)) (noNewline (xs ++ ys)) h in
@@ -62,7 +63,7 @@ lossy-plain (char {bs = bs} {c = c} s e m) h =
     let p = plain-parts (encodeOf c) bs (rw e at h) in both (plain-char c (p .0)) (lossy-plain m (p .1))
 lossy-plain (bad {p = p} {bs = bs} x e m) h = lossy-plain m (plain-parts p bs (rw e at h) .1)
 
-plain-read : (bs : List ℕ) → noNewline bs ≡ true → noNewline (charsOf bs) ≡ true
+pub plain-read : (bs : List ℕ) → noNewline bs ≡ true → noNewline (charsOf bs) ≡ true
 plain-read bs h = lossy-plain (decoded bs [] (inl refl)) h
 
 -- ---- the lines of bytes: what comes up to a 0A, and what follows; and a last one, which may be empty
@@ -112,7 +113,7 @@ module _ (p : List ℕ) (o : Options) where
   no-mark true x y = refl
   no-mark false x y = refl
 
-  take-line : (t : Text) → takeOf p o true t 0x0A ≡ lineOf (steppedOf p o true t 0x0A)
+  pub take-line : (t : Text) → takeOf p o true t 0x0A ≡ lineOf (steppedOf p o true t 0x0A)
   unfolding takeOf
   take-line t = no-mark (t .input .«at_start») _ _
 
@@ -149,54 +150,61 @@ module _ (p : List ℕ) (o : Options) where
     line-next = ap (λ (x : Passed). x .next) with-lines
 
   -- ---- characters and a finish, of which the first ones leave a fresh text
+  abbrev ending : Text → List ℕ → List ℕ → Passed
+  ending t cs q = joined (passedOf p o true t cs) (endOf p o q (passedOf p o true t cs .next) true)
+
   after-line : (u v q : List ℕ) → passedOf p o true freshText u .next ≡ freshText →
-      joined (passedOf p o true freshText (u ++ v)) (endOf p o q (passedOf p o true freshText (u ++ v) .next) true) .out
-      ≡ passedOf p o true freshText u .out
-      ++ joined (passedOf p o true freshText v) (endOf p o q (passedOf p o true freshText v .next) true) .out
+      ending freshText (u ++ v) q ≡ joined (passedOf p o true freshText u) (ending freshText v q)
   after-line u v q h =
       let x : Passed = passedOf p o true freshText u in
-      ap (λ (y : Passed). joined y (endOf p o q (y .next) true) .out) (passed-append p o true freshText u v)
-      ∙ append-assoc (x .out) _ _
-      ∙ ap (λ (t : Text). x .out ++ joined (passedOf p o true t v) (endOf p o q (passedOf p o true t v .next) true) .out) h
+      let y : Passed = passedOf p o true (x .next) v in
+      ap (λ (z : Passed). joined z (endOf p o q (z .next) true)) (passed-append p o true freshText u v)
+      ∙ joined-assoc x y (endOf p o q (y .next) true)
+      ∙ ap (λ (t : Text). joined x (ending t v q)) h
 
   -- ---- a line, and what follows
   module _ (xs : List ℕ) (plain : noNewline xs ≡ true) where
-    line-read : charsOf (xs ++ (0x0A ∷ [])) ≡ charsOf xs ++ (0x0A ∷ [])
+    pub line-read : charsOf (xs ++ (0x0A ∷ [])) ≡ charsOf xs ++ (0x0A ∷ [])
     line-read =
         ap₂ (λ (l q : List ℕ). l ++ finishOf q) (line-outs [] xs []) (line-rest [] xs []) ∙ append-nil (charsOf xs ++ (0x0A ∷ []))
 
     pub whole-line : (ys : List ℕ) →
-        wholeFrom p o true [] freshText (xs ++ (0x0A ∷ ys)) .out
-        ≡ textOut p o (charsOf (xs ++ (0x0A ∷ []))) ++ wholeFrom p o true [] freshText ys .out
+        wholeFrom p o true [] freshText (xs ++ (0x0A ∷ ys))
+        ≡ joined (passedOf p o true freshText (charsOf xs ++ (0x0A ∷ []))) (wholeFrom p o true [] freshText ys)
     whole-line ys =
         let ds : List ℕ = charsOf xs in
-        let d = plain-read xs plain in
         let e : outsOf [] (xs ++ (0x0A ∷ ys)) ≡ (ds ++ (0x0A ∷ [])) ++ outsOf [] ys =
         line-outs [] xs ys ∙ sym (append-assoc ds (0x0A ∷ []) (outsOf [] ys)) in
-        ap₂ (λ (l q : List ℕ). joined (passedOf p o true freshText l) (endOf p o q (passedOf p o true freshText l .next) true) .out) e
-        (line-rest [] xs ys)
-        ∙ after-line (ds ++ (0x0A ∷ [])) (outsOf [] ys) (restOf [] ys) (line-next ds d)
-        ∙ ap (λ (l : List ℕ). l ++ wholeFrom p o true [] freshText ys .out) (line-out ds d ∙ ap (textOut p o) (sym line-read))
+        ap₂ (λ (l q : List ℕ). ending freshText l q) e (line-rest [] xs ys)
+        ∙ after-line (ds ++ (0x0A ∷ [])) (outsOf [] ys) (restOf [] ys) (line-next ds (plain-read xs plain))
+
+    line-outs-are : (ys : List ℕ) →
+        wholeFrom p o true [] freshText (xs ++ (0x0A ∷ ys)) .out
+        ≡ textOut p o (charsOf (xs ++ (0x0A ∷ []))) ++ wholeFrom p o true [] freshText ys .out
+    line-outs-are ys =
+        ap (λ (z : Passed). z .out) (whole-line ys)
+        ∙ ap (λ (l : List ℕ). l ++ wholeFrom p o true [] freshText ys .out)
+        (line-out (charsOf xs) (plain-read xs plain) ∙ ap (textOut p o) (sym line-read))
 
   -- ---- the last line
-  whole-last : (xs : List ℕ) → noNewline xs ≡ true → wholeFrom p o true [] freshText xs .out ≡ textOut p o (charsOf xs)
+  pub whole-last : (xs : List ℕ) → noNewline xs ≡ true → wholeFrom p o true [] freshText xs ≡ textPassed p o (charsOf xs)
   whole-last xs h =
-      ap (λ (x : Passed). joined x (endOf p o (restOf [] xs) (x .next) true) .out)
+      ap (λ (x : Passed). joined x (endOf p o (restOf [] xs) (x .next) true))
       (passed-plain freshText (outsOf [] xs) (plain-parts (outsOf [] xs) _ (plain-read xs h) .0))
-      ∙ whole-out p o xs
+      ∙ whole-text p o xs
 
   -- ---- THE LINES
   module _ (good : accepted p ≡ true) where
     last-is : (xs : List ℕ) → noNewline xs ≡ true → CleanedTexts p o (linesOf xs) (encodeAll (wholeFrom p o true [] freshText xs .out))
     last-is [] h = unfold linesOf in rw nothing none
     last-is (b ∷ bs) h =
-        rw (lines-last b bs h, whole-last (b ∷ bs) h, ← append-nil (encodeAll (textOut p o (charsOf (b ∷ bs)))))
+        rw (lines-last b bs h, ap (λ (z : Passed). z .out) (whole-last (b ∷ bs) h), ← append-nil (encodeAll (textOut p o (charsOf (b ∷ bs)))))
         (more (text-is p o good (b ∷ bs)) none)
 
     by-lines : {bs : List ℕ} → Lines bs → CleanedTexts p o (linesOf bs) (encodeAll (wholeFrom p o true [] freshText bs .out))
     by-lines (last xs h) = last-is xs h
     by-lines (line xs ys h m) =
-        rw (lines-line xs ys h, whole-line xs h ys, encode-append (textOut p o (charsOf (xs ++ (0x0A ∷ [])))))
+        rw (lines-line xs ys h, line-outs-are xs h ys, encode-append (textOut p o (charsOf (xs ++ (0x0A ∷ [])))))
         (more (text-is p o good (xs ++ (0x0A ∷ []))) (by-lines m))
 
     pub lines-are : (bs : List ℕ) → CleanedTexts p o (linesOf bs) (encodeAll (wholeFrom p o true [] freshText bs .out))

@@ -6,14 +6,14 @@
 --     listed          THE LIST
 use Prim.Native.Nat.{ℕ, zero, suc, _+_, _*_, _≤_}
 use mathlib.Core.Bool.{Bool, true, false, cond, not, _&&_, _||_}
-use mathlib.Core.List.{List, [], _∷_, _++_, append-assoc, append-nil}
+use mathlib.Core.List.{List, [], _∷_, _++_, append-nil}
 use mathlib.Core.Path.{_≡_, refl, sym, ap, ap₂, subst, _∙_}
 use native.Mathlib.Omega.{arith}
 use lib.Dec.{eqb, ltb, leb}
 use lib.ListN.{length, length-append}
 use borrow.Author.Tests.{ne-eqb, lt-ltb, le-ltb, le-leb, lt-leb, ltb-false}
 use Rattle.common.specs.Answers.{refusalIn, writtenIn, wroteIn}
-use Rattle.common.proofs.Kit.{never, by-lt, both-true}
+use Rattle.common.proofs.Kit.{by-lt, both-true}
 use Rattle.common.proofs.Lists.{take-first}
 use Rattle.unicode.specs.Utf8.{encodeAll}
 use Rattle.page.specs.Page.{accepted}
@@ -28,13 +28,10 @@ use Rattle.text_clean.specs.Text.{Passed, joined, passedOf}
 use Rattle.text_clean.specs.Clean.{Outcome, outcome, refused, done, refusalOf, placesForBytes, charsIn, cleanOf, lastOf, finishOf}
 use Rattle.text_clean.specs.Calls.{Call, clean, finish, callOf, Answered, Seen, numbersOf, outputOf, readIn, replacedIn, droppedIn, lostIn, totalOf, accepts, acceptedOf, chunksOf, FinishedOnce}
 use Rattle.text_clean.specs.Inner.{noTally}
-use Rattle.text_clean.proofs.Append.{passed-is, encode-append, passed-append}
+use Rattle.text_clean.proofs.Append.{encode-append, passed-append}
 use Rattle.text_clean.proofs.Room.{bytes-room, last-room}
-use Rattle.text_clean.proofs.Reading.{endOf, wholeFrom}
-
-is-no : (b : Bool) → not b ≡ true → b ≡ false
-is-no true h = never h
-is-no false h = refl
+use Rattle.text_clean.proofs.Reading.{joined-assoc, endOf, wholeFrom}
+use Rattle.text_clean.proofs.Lines.{is-no}
 
 -- ---- one call, by whether it is accepted
 abbrev refusalBy : Call → ℕ
@@ -187,9 +184,6 @@ none-listed (c ∷ cs) r (s ∷ seen) h n =
 
 -- ---- bytes in two parts, with the finish
 module _ (p : List ℕ) (o : Options) (lines : Bool) where
-  joined-assoc : (a b c : Passed) → joined (joined a b) c ≡ joined a (joined b c)
-  joined-assoc a b c = passed-is (append-assoc (a .out) (b .out) (c .out)) refl (omega arith) (omega arith)
-
   whole-append : (q : List ℕ) (t : Text) (xs ys : List ℕ) →
       wholeFrom p o lines q t (xs ++ ys)
       ≡ joined (passedOf p o lines t (outsOf q xs)) (wholeFrom p o lines (restOf q xs) (passedOf p o lines t (outsOf q xs) .next) ys)

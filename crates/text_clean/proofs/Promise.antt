@@ -4,7 +4,7 @@
 --     cut-free    equal bytes, however cut, give equal outputs and counts
 use Prim.Native.Nat.{ℕ}
 use mathlib.Core.Bool.{Bool, true, false}
-use mathlib.Core.List.{List, [], _∷_, _++_, append-nil}
+use mathlib.Core.List.{List, [], append-nil}
 use mathlib.Core.Logic.{inl}
 use mathlib.Core.Path.{_≡_, refl, sym, ap, subst, _∙_}
 use lib.ListN.{length, length-append}
@@ -20,10 +20,11 @@ use Rattle.text_input.specs.Streams.{withoutBom}
 use Rattle.text_clean.specs.declared.Cleaner.{Cleaner}
 use Rattle.text_clean.specs.Text.{freshText}
 use Rattle.text_clean.specs.Calls.{Call, Fresh, Answered, Seen, outputOf, totalsOf, acceptedOf, bytesOf, FinishedOnce}
-use Rattle.text_clean.specs.Promise.{CleanedTexts, text, none, more, textsOf, Promise, Promised, CutFree}
+use Rattle.text_clean.specs.Promise.{CleanedTexts, CountedTexts, text, none, more, textsOf, Promise, Promised, CutFree}
 use Rattle.text_clean.proofs.Reading.{charsOf, wholeFrom, textOut, whole-out, text-is, one-decoding, one-reading}
 use Rattle.text_clean.proofs.Lines.{lines-are, texts-only}
 use Rattle.text_clean.proofs.Listed.{Whole, moved, listed}
+use Rattle.text_clean.proofs.Counting.{texts-counted, counts-only}
 use Rattle.text_clean.proofs.Valid.{whole-valid}
 
 module _ (page : List ℕ) (good : accepted page ≡ true) (o : Options) where
@@ -62,6 +63,9 @@ module _ (page : List ℕ) (o : Options) (lines : Bool) (calls : List Call) (onc
         let n = length-append (outsOf [] bs) (decoder.finishOf (restOf [] bs)) in
         (whole .read-is ∙ sym n ∙ ap length (e .0), whole .replaced-is ∙ e .1)
 
+    losses-are : CountedTexts o lines (textsOf lines (bytesOf calls)) (totalsOf seen .dropped) (totalsOf seen .lost)
+    losses-are = rw (whole .dropped-is, whole .lost-is) (texts-counted page o lines (bytesOf calls))
+
     theorem : Promise page o lines (bytesOf calls) (outputOf seen) (totalsOf seen)
     theorem =
         let out : List ℕ = wholeFrom page o lines [] freshText (bytesOf calls) .out in
@@ -74,6 +78,8 @@ module _ (page : List ℕ) (o : Options) (lines : Bool) (calls : List Call) (onc
           valid = (out, whole-valid page o lines [] freshText (bytesOf calls), whole .output);
           written = whole .written-is ∙ ap length (sym (whole .output));
           counts = counts-are;
+          losses = losses-are;
+          sole = λ d l h. counts-only h losses-are;
         }
 
 -- THE THEOREM

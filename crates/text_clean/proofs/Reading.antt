@@ -7,18 +7,19 @@
 --     endOf, wholeFrom    what a finish comes to, and bytes with it, from pending bytes and a text on
 --     spent-passed        a text that has begun is the scanner's run
 --     text-cleaned        the characters of a text and its end
---     whole-out           bytes and a finish are the characters that the bytes are read as, and the text's end
+--     whole-text          bytes and a finish are the characters that the bytes are read as, and the text's end; whole-out: what they
+--                         append
 --     text-is             so they are the one cleaned text
 --     one-decoding, one-reading    what is read is one
 --     text-only           and so is the cleaned text
 use Prim.Native.Nat.{ℕ, _+_}
-use mathlib.Core.Bool.{Bool, true, false, cond, _&&_}
+use mathlib.Core.Bool.{Bool, true, false, cond}
 use mathlib.Core.List.{List, [], _∷_, _++_, append-assoc, append-nil, flatten}
 use mathlib.Core.Logic.{inl}
-use mathlib.Core.Path.{_≡_, refl, sym, ap, ap₂, subst, _∙_}
+use mathlib.Core.Path.{_≡_, refl, sym, ap, ap₂, _∙_}
+use native.Mathlib.Omega.{arith}
 use lib.Dec.{eqb}
 use lib.ListN.{length}
-use Rattle.common.proofs.Kit.{by}
 use Rattle.unicode.specs.Utf8.{encodeAll}
 use Rattle.page.specs.Page.{accepted}
 use Rattle.utf8_lossy.specs.Lossy.{Lossy}
@@ -38,7 +39,7 @@ use Rattle.text_input.proofs.Unique.{exists, unique}
 use Rattle.text_clean.specs.declared.text.Text.{Text}
 use Rattle.text_clean.specs.Text.{Passed, freshText, begun, markOf, steppedOf, takeOf, joined, passedOf, closedOf}
 use Rattle.text_clean.specs.Promise.{ExactlyOne, Decoding, CleanedText, text}
-use Rattle.text_clean.proofs.Append.{passed-append}
+use Rattle.text_clean.proofs.Append.{passed-is, passed-append}
 
 -- the characters that bytes are read as
 abbrev pub charsOf : List ℕ → List ℕ
@@ -57,6 +58,10 @@ one-decoding l =
 pub one-reading : (options : Options) (t : List ℕ) → ExactlyOne (List Piece) (λ (xs : List Piece). Reading options t xs)
 one-reading options t =
     let r = exists options t in record { one = r .0; is = r .1; only = λ xs h. unique options t xs (r .0) h (r .1) }
+
+-- ---- one run, and two that follow
+pub joined-assoc : (a b c : Passed) → joined (joined a b) c ≡ joined a (joined b c)
+joined-assoc a b c = passed-is (append-assoc (a .out) (b .out) (c .out)) refl (omega arith) (omega arith)
 
 -- ---- the end, and bytes with it, where q is pending and the text is t
 abbrev pub endOf : List ℕ → Options → List ℕ → Text → Bool → Passed
@@ -144,11 +149,19 @@ module _ (p : List ℕ) (o : Options) where
       text-run cs ∙ sym (scans-run cs) ∙ whole p good o (cs ∷ []) xs (rw n read)
 
   -- ---- the bytes of a text
-  pub whole-out : (bs : List ℕ) → wholeFrom p o false [] freshText bs .out ≡ textOut (charsOf bs)
-  whole-out bs =
+  -- the characters of a text and its end, by all that they come to
+  abbrev pub textPassed : List ℕ → Passed
+  textPassed cs = joined (passedOf p o false freshText cs) (closedOf (passedOf p o false freshText cs .next) true)
+
+  pub whole-text : (bs : List ℕ) → wholeFrom p o false [] freshText bs ≡ textPassed (charsOf bs)
+  whole-text bs =
       let e = passed-append p o false freshText (outsOf [] bs) (finishOf (restOf [] bs)) in
-      sym (append-assoc (passedOf p o false freshText (outsOf [] bs) .out) _ _)
-      ∙ ap (λ (x : Passed). x .out ++ finishChars (x .next .input) true) (sym e)
+      let x : Passed = passedOf p o false freshText (outsOf [] bs) in
+      let y : Passed = passedOf p o false (x .next) (finishOf (restOf [] bs)) in
+      sym (joined-assoc x y (closedOf (y .next) true)) ∙ ap (λ (z : Passed). joined z (closedOf (z .next) true)) (sym e)
+
+  pub whole-out : (bs : List ℕ) → wholeFrom p o false [] freshText bs .out ≡ textOut (charsOf bs)
+  whole-out bs = ap (λ (z : Passed). z .out) (whole-text bs)
 
   module _ (good : accepted p ≡ true) where
     pub text-is : (bs : List ℕ) → CleanedText p o bs (encodeAll (textOut (charsOf bs)))
