@@ -1,8 +1,8 @@
 -- Lists of calls on a fresh cleaner, worked out by hand: the definitions give the same, byte by byte of what is written and count by
--- count, by computing both. They are the second source for the counts of dropped characters and lost line ends. By the page 0 1 0 377; a
--- chunk of n bytes is lent the 3 × n + 13 places that it needs, an empty one none, and a finish 8. Numbers are hexadecimal, counts
--- decimal.
+-- count, by computing both. By the page 0 1 0 377; a chunk of n bytes is lent the 3 × n + 13 places that it needs, an empty one none, and
+-- a finish 8. Numbers are hexadecimal, counts decimal.
 --     examples    the table
+--     worked      a list with refused calls, for which the promise holds
 use Prim.Native.Nat.{ℕ}
 use mathlib.Core.Bool.{Bool, true, false}
 use mathlib.Core.List.{List, [], _∷_, map}
@@ -15,15 +15,24 @@ use Rattle.ranges.specs.Ranges.{member, rises}
 use Rattle.page.specs.Page.{sized, rising, nonstarter, assigned, accepted}
 use Rattle.text_utils.specs.Classes.{starter, graphemeExtendNotCgj, spacingMarkPlus, basicTextStart, basicTextEnd}
 use Rattle.replace.specs.Replace.{replaceOf}
-use Rattle.utf8_lossy.specs.declared.Pending.the-variants.{Nothing}
+use Rattle.utf8_lossy.specs.declared.Pending.{Pending}
+use Rattle.utf8_lossy.specs.declared.Pending.the-variants.{Nothing, One}
 use Rattle.utf8_lossy.proofs.Room.{recordOf}
 use Rattle.text_input_parts.specs.Sets.{parameter, final, stringEnd, upTo7F, newlineChar}
+use Rattle.text_input.specs.declared.State.{State}
+use Rattle.text_input.specs.declared.State.the-variants.{Ground}
 use Rattle.text_input.specs.declared.Options.{Options}
 use Rattle.text_input.specs.Sets.{optionalLine}
 use Rattle.text_input.specs.Step.{leaveOf, meetOf, scanStepOf}
+use Rattle.text_clean.specs.declared.text.Text.{Text}
 use Rattle.text_clean.specs.declared.Cleaner.{Cleaner}
+use Rattle.text_clean.specs.declared.CleanAnswer.{CleanAnswer}
+use Rattle.text_clean.specs.declared.CleanAnswer.the-variants.{Done, Refused}
 use Rattle.text_clean.specs.Text.{freshText, inEscape, takeOf}
 use Rattle.text_clean.specs.Clean.{Outcome, placesForBytes, cleanOf, finishOf}
+use Rattle.text_clean.specs.Calls.{Call, Answered, Seen, outputOf, totalOf, totalsOf, acceptedOf, chunksOf, bytesOf, FinishedOnce}
+use Rattle.text_clean.specs.Promise.{Promise}
+use Rattle.text_clean.proofs.Promise.{promise}
 
 pub data Act : Type 0 where
   clean : List ℕ → Act
@@ -171,3 +180,76 @@ unfolding table cleanOf finishOf takeOf inEscape encodeOf scanStepOf leaveOf mee
     optionalLine replaceOf isChar basicTextStart basicTextEnd starter graphemeExtendNotCgj spacingMarkPlus accepted sized rising
     nonstarter assigned member rises
 examples = refl
+
+-- ---- a list of calls for which the promise holds, refused ones among them: its hypotheses can be met
+abbrev neither : Options
+neither = with false false
+
+unfoldable pub calls : List Call
+calls =
+    -- a byte needs sixteen places: refused by 8
+    Call.clean page neither false (0xEF ∷ []) (replicate 15 0xEE)
+    -- a page that is a number short, and lines: refused by 2
+    ∷ Call.clean (0 ∷ 1 ∷ 0 ∷ []) neither true (0x61 ∷ []) (replicate 16 0xEE)
+    -- the first byte of U+FEFF waits
+    ∷ Call.clean page neither false (0xEF ∷ []) (replicate 16 0xEE)
+    -- a finish needs eight places: refused by 8
+    ∷ Call.finish page neither true (replicate 7 0xEE)
+    ∷ Call.clean page neither false (0xBB ∷ 0xBF ∷ 0x61 ∷ []) (replicate 22 0xEE)
+    ∷ Call.finish page neither true (replicate 8 0xEE)
+    ∷ []
+
+abbrev by : CleanAnswer → Pending → Text → List ℕ → Answered
+by answer pending text places =
+    record { returned = record { answer = answer; next = record { pending = pending; text = text } }; places = places }
+
+abbrev counted : ℕ → ℕ → ℕ → CleanAnswer
+counted written read dropped = Done (record { written = written; read = read; replaced = 0; dropped = dropped; lost = 0 })
+
+abbrev begunText : State → Bool → ℕ → Text
+begunText state expect last =
+    record { input = record { state = state; «expect_starter» = expect; «at_start» = false; last = last; count = 0 }; cr = false }
+
+unfoldable pub seen : List Answered
+seen =
+    by (Refused 8) Nothing freshText (replicate 15 0xEE)
+    ∷ by (Refused 2) Nothing freshText (replicate 16 0xEE)
+    ∷ by (counted 0 0 0) (One 0xEF) freshText (replicate 16 0xEE)
+    ∷ by (Refused 8) (One 0xEF) freshText (replicate 7 0xEE)
+    ∷ by (counted 1 2 1) Nothing (begunText (Ground false) false 0x61) (0x61 ∷ replicate 21 0xEE)
+    ∷ by (counted 1 0 0) Nothing (begunText (Ground true) true 0x0A) (0x0A ∷ replicate 7 0xEE)
+    ∷ []
+
+abbrev first : Cleaner
+first = record { pending = Nothing; text = freshText }
+
+once : FinishedOnce page neither false (acceptedOf calls)
+unfolding calls acceptedOf accepted sized rising nonstarter assigned member rises
+once = (refl, refl, refl, (refl, refl, refl, (refl, refl, refl, refl)))
+
+saw : Seen first calls seen
+unfolding calls seen cleanOf finishOf takeOf inEscape encodeOf scanStepOf leaveOf meetOf parameter final stringEnd upTo7F newlineChar
+    optionalLine replaceOf isChar basicTextStart basicTextEnd starter graphemeExtendNotCgj spacingMarkPlus accepted sized rising
+    nonstarter assigned member rises
+saw = (refl, (refl, (refl, (refl, (refl, (refl, tt))))))
+
+-- what it says, and the same computed
+pub record Worked : Type 0 where
+  pub promised : Promise page neither false (bytesOf calls) (outputOf seen) (totalsOf seen)
+  pub bytes : bytesOf calls ≡ 0xEF ∷ 0xBB ∷ 0xBF ∷ 0x61 ∷ []
+  pub output : outputOf seen ≡ 0x61 ∷ 0x0A ∷ []
+  pub totals : totalsOf seen ≡ record { written = 2; read = 2; replaced = 0; dropped = 1; lost = 0 }
+
+good : accepted page ≡ true
+unfolding accepted sized rising nonstarter assigned member rises
+good = refl
+
+pub worked : Worked
+unfolding calls seen acceptedOf chunksOf outputOf totalOf accepted sized rising nonstarter assigned member rises
+worked =
+    record {
+      promised = promise page good neither false calls once first (record { pending = refl; text = refl }) seen saw;
+      bytes = refl;
+      output = refl;
+      totals = refl;
+    }
