@@ -5,14 +5,14 @@
 --     cleaned-ends      it ends with 0A, or is empty
 --     whole-clean       what scans of characters and a finish append is clean
 --     whole-chars       and characters
---     chars-append      characters joined to characters
 use Prim.Native.Nat.{ℕ}
 use mathlib.Core.Bool.{Bool, true, false, cond, not}
 use mathlib.Core.List.{List, [], _∷_, _++_, append-nil, flatten}
 use mathlib.Core.Path.{_≡_, refl}
 use lib.Dec.{eqb}
 use borrow.Author.Tests.{eqb-true}
-use Rattle.unicode.specs.Chars.{isChar, areChars}
+use Rattle.unicode.specs.Chars.{areChars}
+use Rattle.unicode.proofs.Texts.{chars-append, chars-parts}
 use Rattle.common.proofs.Kit.{never, split, both-true, both}
 use Rattle.page.specs.Page.{accepted}
 use Rattle.text_utils.specs.Classes.{basicTextStart}
@@ -98,34 +98,22 @@ all-append : (f : ℕ → Bool) (v w : List ℕ) → all f v ≡ true → all f 
 all-append f [] w h g = g
 all-append f (x ∷ v) w h g = let k = both-true (f x) (all f v) h in both (k .0) (all-append f v w (k .1) g)
 
-pub chars-append : (v w : List ℕ) → areChars v ≡ true → areChars w ≡ true → areChars (v ++ w) ≡ true
-chars-append [] w h g = g
-chars-append (x ∷ v) w h g = let k = both-true (isChar x) (areChars v) h in both (k .0) (chars-append v w (k .1) g)
-
-chars-left : (v w : List ℕ) → areChars (v ++ w) ≡ true → areChars v ≡ true
-chars-left [] w h = refl
-chars-left (x ∷ v) w h = let k = both-true (isChar x) (areChars (v ++ w)) h in both (k .0) (chars-left v w (k .1))
-
-chars-right : (v w : List ℕ) → areChars (v ++ w) ≡ true → areChars w ≡ true
-chars-right [] w h = h
-chars-right (x ∷ v) w h = chars-right v w (both-true (isChar x) (areChars (v ++ w)) h .1)
-
 module _ (p : List ℕ) (o : Options) where
   scans-clean : (r : TextInput) (ts : List (List ℕ)) → areChars (flatten ts) ≡ true → all clean (scansChars p o r ts) ≡ true
   unfolding scansChars flatten
   scans-clean r [] h = refl
   scans-clean r (t ∷ ts) h =
       all-append clean (scanChars p o r t) (scansChars p o (scanNext p o r t) ts)
-      (holds (all clean (scanChars p o r t)) (scan-clean p o r t (chars-left t (flatten ts) h)))
-      (scans-clean (scanNext p o r t) ts (chars-right t (flatten ts) h))
+      (holds (all clean (scanChars p o r t)) (scan-clean p o r t (chars-parts t (flatten ts) h .0)))
+      (scans-clean (scanNext p o r t) ts (chars-parts t (flatten ts) h .1))
 
   scans-chars : (r : TextInput) (ts : List (List ℕ)) → areChars (flatten ts) ≡ true → areChars (scansChars p o r ts) ≡ true
   unfolding scansChars flatten
   scans-chars r [] h = refl
   scans-chars r (t ∷ ts) h =
       chars-append (scanChars p o r t) (scansChars p o (scanNext p o r t) ts)
-      (scan-chars p o r t (chars-left t (flatten ts) h))
-      (scans-chars (scanNext p o r t) ts (chars-right t (flatten ts) h))
+      (scan-chars p o r t (chars-parts t (flatten ts) h .0))
+      (scans-chars (scanNext p o r t) ts (chars-parts t (flatten ts) h .1))
 
   module _ (r : TextInput) (ts : List (List ℕ)) (h : areChars (flatten ts) ≡ true) where
     abbrev last : TextInput

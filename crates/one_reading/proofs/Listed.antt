@@ -25,7 +25,7 @@ use Rattle.text_input_parts.proofs.Passed.{ChunkPassed, passed, room-passed}
 use Rattle.text_input.proofs.Meaning.{ends-count}
 use Rattle.text_input.proofs.Room.{scan-room, finish-room}
 use Rattle.one_reading.proofs.Accepts.{refusalBy, accepts-is, accepted-none}
-use Rattle.one_reading.proofs.Holds.{chars-append}
+use Rattle.unicode.proofs.Texts.{chars-append}
 use Rattle.one_reading.specs.Calls.{Call, scan, finish, callOf, Seen, queueOf, recordAfter, accepts, countWith, acceptedFrom, chunksOf, FinishedOnce}
 
 -- ---- one call, by whether it is accepted

@@ -1,6 +1,5 @@
 -- A run of bytes in two parts: what the first gives, and then what the second gives from where the first led. So the loop of `run` goes
 -- by `stretch`'s way (proofs/Way.antt). Idea: the decoder's outputs append (`utf8_lossy`), and a run of characters goes one by one.
---     encode-append    the encoding of joined texts
 --     passed-append    what joined texts come to
 --     passes-append    what joined bytes come to; gives-append, leads-append: by its parts
 --     cleanWay         the way
@@ -14,6 +13,7 @@ use mathlib.Core.Path.{_≡_, refl, sym, ap, subst, _∙_}
 use native.Mathlib.Omega.{arith}
 use lib.ListN.{length, length-append}
 use Rattle.unicode.specs.Utf8.{encodeAll}
+use Rattle.unicode.proofs.Texts.{encode-append}
 use Rattle.stretch.proofs.Way.{inPlaces, Way}
 use Rattle.utf8_lossy.specs.Machine.{stepOf, outsOf, restOf}
 use Rattle.utf8_lossy.proofs.Reading.{outs-append, rest-append, replaced-append}
@@ -35,11 +35,6 @@ tally-is p q r s = λ i. record { read = p i; replaced = q i; dropped = r i; los
 pub course-is : {a b : List ℕ} {t u : Text} {m n : Tally} → a ≡ b → t ≡ u → m ≡ n →
     _≡_ {A = Course} (record { pending = a; text = t; tally = m }) (record { pending = b; text = u; tally = n })
 course-is h g f = λ i. record { pending = h i; text = g i; tally = f i }
-
--- ---- encodings
-pub encode-append : (cs ds : List ℕ) → encodeAll (cs ++ ds) ≡ encodeAll cs ++ encodeAll ds
-encode-append [] ds = refl
-encode-append (c ∷ cs) ds = rw (append-assoc, encode-append cs ds)
 
 -- ---- characters
 joined-assoc : (a b c : Passed) → joined a (joined b c) ≡ joined (joined a b) c

@@ -15,6 +15,7 @@ use lib.Seq.{sets, length-sets}
 use Rattle.common.proofs.Kit.{by-lt}
 use Rattle.common.proofs.Lists.{sets-append}
 use Rattle.unicode.specs.Utf8.{encodeAll}
+use Rattle.unicode.proofs.Texts.{encode-append}
 use Rattle.page.specs.Page.{accepted}
 use Rattle.stretch.specs.Stretch.{part}
 use Rattle.stretch.proofs.Parts.{cut}
@@ -36,7 +37,7 @@ use Rattle.text_clean.specs.declared.Ran.{Ran}
 use Rattle.text_clean.specs.Text.{Passed, passedOf, closedOf}
 use Rattle.text_clean.specs.Clean.{Outcome, outcome, placesForBytes, cleanOf, lastOf, finishOf}
 use Rattle.text_clean.specs.Inner.{noTally, Fits, replacedIn, countsOf, takenBy, isShort, Course, courseOf, gives, leads, Reached, ranIn, ranBy, Moves}
-use Rattle.text_clean.proofs.Append.{tally-is, course-is, encode-append, cleanWay}
+use Rattle.text_clean.proofs.Append.{tally-is, course-is, cleanWay}
 use Rattle.text_clean.proofs.Room.{bit-le, passed-dropped, passed-lost, counts-fit, bytes-room, last-room}
 use Rattle.text_clean.proofs.Turns.{reached-is, Asks, Takes}
 

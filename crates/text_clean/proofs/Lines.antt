@@ -19,6 +19,7 @@ use lib.Dec.{eqb}
 use borrow.Author.Tests.{eqb-true}
 use Rattle.common.proofs.Kit.{never, by, both, both-true}
 use Rattle.unicode.specs.Utf8.{encodeOf, encodeAll}
+use Rattle.unicode.proofs.Texts.{encode-append}
 use Rattle.unicode.proofs.Rows.{row1}
 use Rattle.page.specs.Page.{accepted}
 use Rattle.utf8_lossy.specs.Lossy.{Lossy, done, char, bad}
@@ -31,7 +32,7 @@ use Rattle.text_input.proofs.Streams.{nothing}
 use Rattle.text_clean.specs.declared.text.Text.{Text}
 use Rattle.text_clean.specs.Text.{Passed, freshText, steppedOf, lineOf, takeOf, joined, passedOf}
 use Rattle.text_clean.specs.Promise.{CleanedTexts, none, more, intoFirst, linesOf}
-use Rattle.text_clean.proofs.Append.{encode-append, passed-append, passed-one}
+use Rattle.text_clean.proofs.Append.{passed-append, passed-one}
 use Rattle.text_clean.proofs.Reading.{charsOf, joined-assoc, endOf, wholeFrom, textOut, textPassed, whole-text, text-is, text-only}
 
 -- ---- no 0A

@@ -16,6 +16,7 @@ use Rattle.common.specs.Answers.{refusalIn, writtenIn, wroteIn}
 use Rattle.common.proofs.Kit.{by-lt, both-true}
 use Rattle.common.proofs.Lists.{take-first}
 use Rattle.unicode.specs.Utf8.{encodeAll}
+use Rattle.unicode.proofs.Texts.{encode-append}
 use Rattle.page.specs.Page.{accepted}
 use Rattle.utf8_lossy.specs.Machine.{outsOf, restOf, replacedOf}
 use Rattle.utf8_lossy.specs.Machine as decoder
@@ -28,7 +29,7 @@ use Rattle.text_clean.specs.Text.{Passed, joined, passedOf}
 use Rattle.text_clean.specs.Clean.{Outcome, outcome, refused, done, refusalOf, placesForBytes, charsIn, cleanOf, lastOf, finishOf}
 use Rattle.text_clean.specs.Calls.{Call, clean, finish, callOf, Answered, Seen, numbersOf, outputOf, readIn, replacedIn, droppedIn, lostIn, totalOf, accepts, acceptedOf, chunksOf, FinishedOnce}
 use Rattle.text_clean.specs.Inner.{noTally}
-use Rattle.text_clean.proofs.Append.{encode-append, passed-append}
+use Rattle.text_clean.proofs.Append.{passed-append}
 use Rattle.text_clean.proofs.Room.{bytes-room, last-room}
 use Rattle.text_clean.proofs.Reading.{joined-assoc, endOf, wholeFrom}
 use Rattle.text_clean.proofs.Lines.{is-no}

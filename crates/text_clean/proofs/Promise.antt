@@ -2,27 +2,23 @@
 -- (proofs/Reading.antt), or with `lines` to those of the lines (proofs/Lines.antt), and that is UTF-8 (proofs/Valid.antt).
 --     promise     the theorem
 --     cut-free    equal bytes, however cut, give equal outputs and counts
---     fresh-new   a record that `new` makes is fresh, by what it ensures
 use Prim.Native.Nat.{ℕ}
 use mathlib.Core.Bool.{Bool, true, false}
-use mathlib.Core.List.{List, [], _∷_, append-nil}
+use mathlib.Core.List.{List, [], append-nil}
 use mathlib.Core.Logic.{inl}
 use mathlib.Core.Path.{_≡_, refl, sym, ap, subst, _∙_}
 use lib.ListN.{length, length-append}
-use Rattle.common.proofs.Kit.{never}
 use Rattle.unicode.specs.Utf8.{encodeAll}
 use Rattle.page.specs.Page.{accepted}
 use Rattle.utf8_lossy.specs.Lossy.{Lossy}
 use Rattle.utf8_lossy.specs.Machine.{outsOf, restOf}
 use Rattle.utf8_lossy.specs.Machine as decoder
-use Rattle.utf8_lossy.specs.Decode.{pendingOf}
 use Rattle.utf8_lossy.proofs.Reading.{decoded, only}
 use Rattle.text_input.specs.declared.Options.{Options}
 use Rattle.text_input.specs.Pieces.{Piece, Reading, cleaned}
 use Rattle.text_input.specs.Streams.{withoutBom}
 use Rattle.text_clean.specs.declared.Cleaner.{Cleaner}
 use Rattle.text_clean.specs.Text.{freshText}
-use Rattle.text_clean.specs.Inner.{isNothing}
 use Rattle.text_clean.specs.Calls.{Call, Fresh, Answered, Seen, outputOf, totalsOf, acceptedOf, bytesOf, FinishedOnce}
 use Rattle.text_clean.specs.Promise.{CleanedTexts, CountedTexts, text, none, more, textsOf, Promise, Promised, CutFree}
 use Rattle.text_clean.proofs.Reading.{charsOf, wholeFrom, textOut, whole-out, text-is, one-decoding, one-reading}
@@ -103,11 +99,3 @@ cut-free page good o lines calls others once onceToo same r s new newToo seen al
       a .output ∙ sym (b .output),
       λ i. record { written = written i; read = read i; replaced = replaced i; dropped = dropped i; lost = lost i },
     )
-
--- what `new` ensures
-nothing-left : (q : List ℕ) → isNothing q ≡ true → q ≡ []
-nothing-left [] h = refl
-nothing-left (b ∷ q) h = never h
-
-pub fresh-new : (r : Cleaner) → isNothing (pendingOf (r .pending)) ≡ true → r .text ≡ freshText → Fresh r
-fresh-new r h e = record { pending = nothing-left (pendingOf (r .pending)) h; text = e }

@@ -22,6 +22,7 @@ use Rattle.common.proofs.Kit.{never, by, split, both, both-true, or-cases}
 use Rattle.unicode.specs.Chars.{isChar, areChars}
 use Rattle.unicode.specs.Utf8.{encodeOf, encodeAll}
 use Rattle.unicode.proofs.Rows.{length-encode, long2, long3}
+use Rattle.unicode.proofs.Texts.{encode-append, chars-append}
 use Rattle.replace.specs.declared.Replaced.{Replaced}
 use Rattle.replace.specs.declared.Replaced.the-variants.{One}
 use Rattle.replace.specs.Table.{_to_, Row, _gives_, has, lookup}
@@ -60,7 +61,6 @@ use Rattle.text_clean.specs.Text.{bit, begun, escaping, inEscape, lostBe
 use Rattle.text_clean.specs.Clean.{placesForBytes}
 use Rattle.text_clean.specs.Clean as call
 use Rattle.text_clean.specs.Inner.{noTally, Fits, courseOf, gives, leads}
-use Rattle.text_clean.proofs.Append.{encode-append}
 
 -- ---- one character is a leading mark, a line end that ends its text, or goes by the scanner's step
 pub by-take : (P : Passed → Type 0) (p : List ℕ) (o : Options) (lines : Bool) (t : Text) (c : ℕ) →
@@ -72,10 +72,6 @@ by-take P p o lines t c mark line stepped =
     (λ e. split P (lines && eqb c 0x0A) (λ f. let g = both-true lines (eqb c 0x0A) f in line (g .0) (eqb-true c 0x0A (g .1))) (λ f. stepped))
 
 -- ---- only characters
-pub chars-append : (cs ds : List ℕ) → areChars cs ≡ true → areChars ds ≡ true → areChars (cs ++ ds) ≡ true
-chars-append [] ds s t = t
-chars-append (c ∷ cs) ds s t = let p = both-true (isChar c) (areChars cs) s in both (p .0) (chars-append cs ds (p .1) t)
-
 module _ (p : List ℕ) (o : Options) (lines : Bool) where
   step-chars : (t : Text) (c : ℕ) → isChar c ≡ true → areChars (steppedOf p o lines t c .out) ≡ true
   step-chars t c h = rw append-nil at (run-chars p o (begun (t .input)) (c ∷ []) (both h refl))

@@ -1,6 +1,4 @@
 -- Characters encoded into places, one run after the other: what is asked before, and what is known after.
---     encode-append    the encoding of joined characters is the joined encodings
---     chars-append     joined characters are characters
 --     asks-one ..      what `write_utf8` asks and leaves, as of a list of one character
 --     asks-first       room for joined characters is room for the first of them
 --     asks-then        and, once these are stored, for the others
@@ -8,30 +6,16 @@
 use Prim.Native.Nat.{ℕ, _+_, _≤_}
 use mathlib.Core.Path.{_≡_, refl, sym, _∙_}
 use mathlib.Core.Bool.{true}
-use mathlib.Core.List.{List, [], _∷_, _++_, append-assoc, append-nil}
+use mathlib.Core.List.{List, [], _∷_, _++_, append-nil}
 use native.Mathlib.Omega.{arith}
 use native.Mathlib.Nat.{add-zero}
 use lib.ListN.{length, length-append}
 use lib.Seq.{sets, length-sets}
-use Rattle.common.proofs.Kit.{both-true, both}
+use Rattle.common.proofs.Kit.{both-true}
 use Rattle.common.proofs.Lists.{sets-append}
 use Rattle.unicode.specs.Chars.{isChar, areChars}
 use Rattle.unicode.specs.Utf8.{encodeOf, encodeAll}
-
-pub encode-append : (cs ds : List ℕ) → encodeAll (cs ++ ds) ≡ encodeAll cs ++ encodeAll ds
-encode-append [] ds = refl
-encode-append (c ∷ cs) ds = rw (append-assoc, encode-append cs ds)
-
-chars-parts : (cs ds : List ℕ) → areChars (cs ++ ds) ≡ true → (areChars cs ≡ true) × (areChars ds ≡ true)
-chars-parts [] ds h = (refl, h)
-chars-parts (c ∷ cs) ds h =
-    let p = both-true (isChar c) (areChars (cs ++ ds)) h in
-    let q = chars-parts cs ds (p .1) in (both (p .0) (q .0), q .1)
-
-pub chars-append : (cs ds : List ℕ) → areChars cs ≡ true → areChars ds ≡ true → areChars (cs ++ ds) ≡ true
-chars-append [] ds h g = g
-chars-append (c ∷ cs) ds h g =
-    let p = both-true (isChar c) (areChars cs) h in both (p .0) (chars-append cs ds (p .1) g)
+use Rattle.unicode.proofs.Texts.{encode-append, chars-parts}
 
 -- cs are characters, and there is room for them in l from `at` on
 abbrev pub Asks : List ℕ → List ℕ → ℕ → Type 0

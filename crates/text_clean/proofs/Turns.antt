@@ -20,6 +20,7 @@ use lib.Seq.{sets, length-sets, drop-cons}
 use Rattle.common.proofs.Kit.{never, by, by-lt, both-true}
 use Rattle.common.proofs.Lists.{sets-append}
 use Rattle.unicode.specs.Chars.{isChar, areChars}
+use Rattle.unicode.proofs.Texts.{encode-append}
 use Rattle.unicode.specs.Utf8.{encodeOf, encodeAll, utf8StepOf}
 use Rattle.unicode.specs.declared.utf8.Utf8Step.the-variants.{Char}
 use Rattle.unicode.proofs.Rows.{row1, length-encode}
@@ -46,7 +47,7 @@ use Rattle.text_clean.specs.declared.Moved.{Moved}
 use Rattle.text_clean.specs.declared.Ran.{Ran}
 use Rattle.text_clean.specs.Text.{Passed, takeOf, joined, passedOf}
 use Rattle.text_clean.specs.Inner.{Fits, tallied, replacedIn, takenBy, readyFor, passedText, endedText, PlainRun, lineEndAt, isNothing, Course, courseOf, passes, gives, leads, Reached, ranIn, ranBy, Moves}
-use Rattle.text_clean.proofs.Append.{tally-is, course-is, encode-append, passed-one, passes-one, gives-append, fits-first}
+use Rattle.text_clean.proofs.Append.{tally-is, course-is, passed-one, passes-one, gives-append, fits-first}
 use Rattle.text_clean.proofs.Ready.{plainly, ready-for, ready-ground, plain-passed, plain-chars, lineEnd, newline-passed, crlf-passed}
 
 -- ---- records by their parts

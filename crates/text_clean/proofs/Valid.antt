@@ -6,13 +6,14 @@ use mathlib.Core.Bool.{Bool, true, false}
 use mathlib.Core.List.{List}
 use mathlib.Core.Path.{_≡_}
 use Rattle.unicode.specs.Chars.{areChars}
+use Rattle.unicode.proofs.Texts.{chars-append}
 use Rattle.utf8_lossy.specs.Machine.{outsOf, restOf, finishOf}
 use Rattle.utf8_lossy.proofs.Room.{are-chars, finish-chars}
 use Rattle.text_input.specs.declared.Options.{Options}
 use Rattle.text_input.proofs.Clean.{finish-chars as end-chars}
 use Rattle.text_clean.specs.declared.text.Text.{Text}
 use Rattle.text_clean.specs.Text.{Passed, passedOf}
-use Rattle.text_clean.proofs.Room.{chars-append, passed-chars}
+use Rattle.text_clean.proofs.Room.{passed-chars}
 use Rattle.text_clean.proofs.Reading.{endOf, wholeFrom}
 
 module _ (p : List ℕ) (o : Options) where

@@ -1,8 +1,8 @@
 -- The calls on bytes: what they answer, the record after and the lent places after, refused or not. What is written is the encoding of
 -- what the decoded characters come to.
 use Prim.Native.Nat.{ℕ, zero, suc, _+_, _*_}
-use mathlib.Core.Bool.{Bool, true, false, cond, not}
-use mathlib.Core.List.{List, [], _∷_, _++_}
+use mathlib.Core.Bool.{Bool, false, cond, not}
+use mathlib.Core.List.{List, [], _∷_}
 use lib.Dec.{eqb}
 use lib.ListN.{length}
 use lib.Seq.{sets}
@@ -15,11 +15,10 @@ use Rattle.utf8_lossy.specs.Machine as decoder
 use Rattle.text_input.specs.declared.Options.{Options}
 use Rattle.text_clean.specs.declared.text.Text.{Text}
 use Rattle.text_clean.specs.declared.Cleaner.{Cleaner}
-use Rattle.text_clean.specs.declared.Counts.{Counts}
 use Rattle.text_clean.specs.declared.CleanAnswer.{CleanAnswer}
 use Rattle.text_clean.specs.declared.CleanAnswer.the-variants.{Done, Refused}
 use Rattle.text_clean.specs.declared.Cleaned.{Cleaned}
-use Rattle.text_clean.specs.Text.{Passed, freshText, joined, passedOf, closedOf}
+use Rattle.text_clean.specs.Text.{Passed, joined, passedOf, closedOf}
 
 -- an answer by numbers: 0, the bytes written, the characters read, the bytes that U+FFFD stands for, the characters dropped and the
 -- line ends lost; or the refusal's number

@@ -184,7 +184,7 @@ fn take_out(
 impl Cleaner {
     // A record as first made.
     pub fn new() -> Self
-        ensures pending { λ r. ⌜ isNothing (pendingOf (r .pending)) ≡ true ⌝ }
+        ensures pending { λ r. ⌜ pendingOf (r .pending) ≡ [] ⌝ }
         ensures text { λ r. ⌜ r .text ≡ freshText ⌝ }
     {
         Self {

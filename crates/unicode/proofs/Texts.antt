@@ -1,6 +1,8 @@
 -- Texts: the longest valid prefix, the two round trips, and the loops that read one.
 -- `charsOf` goes on as the step says, so what it gives stands at the front (`runs`); any characters that stand there are
 -- a start of it (`starts`), so nothing longer stands there.
+--     encode-append            the encoding of joined texts is the joined encodings
+--     chars-append, chars-parts   joined characters are characters, and so are the parts of characters
 --     longest, longest-only    `charsOf` gives the characters of the longest valid prefix, and nothing else does
 --     decode-encode            decoding the encoding of characters gives them
 --     encode-decode            encoding what was decoded gives the bytes of the prefix
@@ -46,9 +48,20 @@ begins-take (w ∷ ws) (b ∷ bs) h =
     let r = begins-take ws bs (p .1) in
     rw e (ap (λ (l : List ℕ). b ∷ l) r)
 
-encodeAll-append : (cs ds : List ℕ) → encodeAll (cs ++ ds) ≡ encodeAll cs ++ encodeAll ds
-encodeAll-append [] ds = refl
-encodeAll-append (c ∷ cs) ds = rw (append-assoc, encodeAll-append cs ds)
+-- ---- texts that are joined
+pub encode-append : (cs ds : List ℕ) → encodeAll (cs ++ ds) ≡ encodeAll cs ++ encodeAll ds
+encode-append [] ds = refl
+encode-append (c ∷ cs) ds = rw (append-assoc, encode-append cs ds)
+
+pub chars-append : (cs ds : List ℕ) → areChars cs ≡ true → areChars ds ≡ true → areChars (cs ++ ds) ≡ true
+chars-append [] ds h g = g
+chars-append (c ∷ cs) ds h g = let k = both-true (isChar c) (areChars cs) h in both (k .0) (chars-append cs ds (k .1) g)
+
+pub chars-parts : (cs ds : List ℕ) → areChars (cs ++ ds) ≡ true → (areChars cs ≡ true) × (areChars ds ≡ true)
+chars-parts [] ds h = (refl, h)
+chars-parts (c ∷ cs) ds h =
+    let k = both-true (isChar c) (areChars (cs ++ ds)) h in
+    let q = chars-parts cs ds (k .1) in (both (k .0) (q .0), q .1)
 
 none-of : (cs : List ℕ) → length (encodeAll cs) ≡ 0 → cs ≡ []
 none-of [] h = refl
@@ -99,7 +112,7 @@ module _ (bs : List ℕ) where
       (p .0, rw e (ap (λ (l : List ℕ). d ∷ l) (p .1)))
 
   size : (cs es : List ℕ) → charsFrom (length bs) bs 0 ≡ cs ++ es → length (encodeAll (charsFrom (length bs) bs 0)) ≡ length (encodeAll cs) + length (encodeAll es)
-  size cs es e = rw (e, encodeAll-append, length-append)
+  size cs es e = rw (e, encode-append, length-append)
 
   pub longest : LongestPrefix bs (charsOf bs)
   unfolding charsOf

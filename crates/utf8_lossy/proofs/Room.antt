@@ -14,9 +14,10 @@ use native.Mathlib.Omega.{arith}
 use borrow.Author.Tests.{ltb-true}
 use lib.Dec.{ltb}
 use lib.ListN.{length, length-append}
-use Rattle.common.proofs.Kit.{split, both, both-true}
+use Rattle.common.proofs.Kit.{split, both}
 use Rattle.unicode.specs.Chars.{isChar, areChars}
 use Rattle.unicode.proofs.Rows.{char-low, char-high}
+use Rattle.unicode.proofs.Texts.{chars-append}
 use Rattle.utf8_lossy.specs.declared.Kind.{Kind}
 use Rattle.utf8_lossy.specs.declared.Kind.the-variants.{Whole, More, Bad}
 use Rattle.utf8_lossy.specs.declared.Pending.{Pending}
@@ -118,10 +119,6 @@ turn-chars p b (whole s) = both s refl
 turn-chars p b more = refl
 turn-chars [] b bad = both repl refl
 turn-chars (a ∷ p) b bad = both repl (fresh-chars b (next-sound [] b))
-
-chars-append : (cs ds : List ℕ) → areChars cs ≡ true → areChars ds ≡ true → areChars (cs ++ ds) ≡ true
-chars-append [] ds s t = t
-chars-append (c ∷ cs) ds s t = let p = both-true (isChar c) (areChars cs) s in both (p .0) (chars-append cs ds (p .1) t)
 
 pub are-chars : (p bs : List ℕ) → areChars (outsOf p bs) ≡ true
 are-chars p [] = refl

@@ -24,7 +24,7 @@ use Rattle.unicode.specs.Utf8.{encodeOf, encodeAll, begins, utf8StepOf}
 use Rattle.unicode.specs.declared.utf8.Utf8Step.the-variants.{Char}
 use Rattle.unicode.proofs.Rows.{char-low, row1}
 use Rattle.unicode.proofs.Steps.{step-exactly}
-use Rattle.unicode.proofs.Texts.{step-on}
+use Rattle.unicode.proofs.Texts.{step-on, encode-append}
 use Rattle.stretch.specs.Stretch.{part, inGap, inSought}
 use Rattle.stretch.specs.Plain.{Plain, Gap, asciiOr}
 use Rattle.stretch.proofs.Clear.{sought-kept}
@@ -32,7 +32,6 @@ use Rattle.stretch.proofs.Parts.{part-length, part-at}
 use Rattle.text_input_parts.specs.Appended.{lastOf}
 use Rattle.text_input_parts.proofs.Last.{last-append}
 use Rattle.text_clean.specs.Inner.{plainByte, PlainBytes, PlainTo, PlainRun}
-use Rattle.text_clean.proofs.Stored.{encode-append}
 
 -- ---- bytes
 module _ (bs : List ℕ) (f : ℕ) where

@@ -17,6 +17,7 @@ use lib.Seq.{sets}
 use Rattle.common.proofs.Kit.{both}
 use Rattle.unicode.specs.Chars.{isChar, areChars}
 use Rattle.unicode.specs.Utf8.{encodeAll}
+use Rattle.unicode.proofs.Texts.{encode-append, chars-append}
 use Rattle.text_input.specs.declared.Options.{Options}
 use Rattle.text_input.specs.declared.Ending.{Ending}
 use Rattle.text_input.specs.declared.TextInput.{TextInput}
@@ -30,7 +31,7 @@ use Rattle.text_clean.specs.declared.text.Tally.{Tally}
 use Rattle.text_clean.specs.declared.text.Taken.{Taken}
 use Rattle.text_clean.specs.Text.{Passed, bit, freshText, begun, inEscape, lostBefore, markOf, steppedOf, lineOf, takeOf, closedOf}
 use Rattle.text_clean.specs.Inner.{Fits, tallied, takenBy}
-use Rattle.text_clean.proofs.Stored.{encode-append, chars-append, Asks, Stored, stored-then}
+use Rattle.text_clean.proofs.Stored.{Asks, Stored, stored-then}
 
 pub at-most-one : (b : Bool) → bit b ≤ 1
 at-most-one true = omega arith
