@@ -168,6 +168,28 @@ impl Scanner {
         std::mem::swap(&mut input.raw_string, text);
         input.queue.len()
     }
+
+    /// `process_raw_string` on the next part of a stream, for the pipeline. The queue goes out, but for its last character,
+    /// for which a finish asks. Nothing is done for an empty part: it would spend the chance to drop U+FEFF.
+    pub fn feed(&mut self, nel: bool, lsps: bool, part: &mut String, out: &mut String) {
+        if part.is_empty() {
+            return;
+        }
+        let input = &mut self.reader.input;
+        input.nel_compatibility = nel;
+        input.lsps_compatibility = lsps;
+        std::mem::swap(&mut input.raw_string, part);
+        input.process_raw_string();
+        std::mem::swap(&mut input.raw_string, part);
+        let ready = input.queue.len().saturating_sub(1);
+        out.extend(input.queue.drain(..ready));
+    }
+
+    /// Finishes such a stream as end of file. The rest of the queue goes out.
+    pub fn end(&mut self, out: &mut String) {
+        self.finish(true, 2).expect("two places are lent");
+        out.extend(self.reader.input.queue.drain(..));
+    }
 }
 
 /// "A chunk of n characters needs 3 × n + 1 free places, an empty one none."
