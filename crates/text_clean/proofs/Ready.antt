@@ -74,7 +74,7 @@ module _ (c : ℕ) (h : inSpans special c ≡ false) where
   meet-other o =
       simp (differs 0xa refl, differs 0xd refl, differs 0xc refl, differs 0x1b refl, differs 0x85 refl, differs 0x2028 refl, differs 0x2029 refl)
 
--- "every ASCII character, whatever the page says"
+-- ASCII is always a start, whatever the page says
 start-ascii : (p : List ℕ) (c : ℕ) → c < 0x80 → basicTextStart p c ≡ true
 unfolding starter
 start-ascii p c h = start-low p c (omega arith) ∙ rw (lt-ltb c 0x80 h)
