@@ -1,10 +1,10 @@
 -- Plain characters and line ends, where nothing is pending: what the quick path of `advance` passes comes out as it goes in.
 -- Idea: such a character is neither a mark nor part of an escape, the scanner's step gives it back, and a start that is expected it is
 -- itself, where it is ASCII. From the first of a run on no start is expected.
---     Ready, ready-for             the text is ready for a character, by the first byte of its encoding
---     plain-take, plain-passed     a plain character, and a run of them
---     plain-chars                  they are characters
---     line-take, crlf-passed       0A, and 0D 0A
+--     Ready, ready-for                the text is ready for a character, by the first byte of its encoding
+--     plain-passed                    what a run of plain characters comes to
+--     plain-chars                     they are characters
+--     newline-passed, crlf-passed     what 0A comes to, and 0D 0A
 use Prim.Native.Nat.{ℕ, suc, _<_}
 use mathlib.Core.Bool.{Bool, true, false, not, true≢false, _&&_, _||_, and-false}
 use mathlib.Core.List.{List, [], _∷_, _++_}
@@ -106,7 +106,7 @@ module _ (p : List ℕ) (o : Options) (lines : Bool) where
   plain-step t c r k =
       simp (leave-ground (t .input .state) c (r .ground), meet-other c (k .other) o, k .same, no-guard p (t .input .«expect_starter») (t .input .«at_start») c (r .start))
 
-  pub plain-take : (t : Text) (c : ℕ) → Ready t c → Plain c → takeOf p o lines t c ≡ plainly t (c ∷ []) c
+  plain-take : (t : Text) (c : ℕ) → Ready t c → Plain c → takeOf p o lines t c ≡ plainly t (c ∷ []) c
   unfolding takeOf
   plain-take t c r k =
       simp (
@@ -209,7 +209,7 @@ module _ (p : List ℕ) (o : Options) where
   line-step Osc r h e = never h
   line-step Linux r h e = never h
 
-  pub line-take : (lines : Bool) (t : Text) → atLine (t .input .state) ≡ true → t .cr ≡ false → takeOf p o lines t 0x0A ≡ lineEnd t lines
+  line-take : (lines : Bool) (t : Text) → atLine (t .input .state) ≡ true → t .cr ≡ false → takeOf p o lines t 0x0A ≡ lineEnd t lines
   unfolding takeOf
   line-take true t h e =
       simp (and-false, line-step (t .input .state) (begun (t .input)) h refl, line-escape (t .input .state) h, e, end-newline)

@@ -1,12 +1,10 @@
 -- One turn over bytes: the characters that a byte puts out (`take_out`, `take_byte`), and the four ways of `advance`.
 -- Idea: whole characters, where nothing is pending, are decoded as they stand, so a turn over them is a run of characters. What a turn
 -- needs of places and counts is part of what all that is left needs.
---     Asks, Takes, ..              none, one and two characters
---     byte-..                      one byte
---     part-room, part-fits         what a part needs, of what is left
---     Whole, whole-..              a turn over whole characters
---     plain-whole, line-whole, char-whole    a run of plain characters, a line end, one character
---     byte-moves                   a turn over one byte
+--     Asks, Takes                   what `take_out` asks of characters and answers; none-, one-, first-, second-, two-: by how many
+--     byte-counts, -asks, -ran      one byte, whatever is pending
+--     Whole                         the bytes of a turn are whole characters: what these come to is what the bytes come to
+--     plain-, line-, char-, byte-   the four ways of `advance`: what each asks of places and counts, and where it leads (`-moves`)
 use Prim.Native.Nat.{ℕ, suc, _+_, _-_, _≤_, _<_}
 use mathlib.Core.Bool.{Bool, true, false, _&&_}
 use mathlib.Core.List.{List, [], _∷_, append-nil}
@@ -278,13 +276,13 @@ module _ (p : List ℕ) (o : Options) (lines : Bool) (s : Course) (bytes : List 
         (tally-is (omega (arith, ap length whole-outs)) (omega (arith, m)) (omega (arith, ap (λ (z : Passed). z .dropped) q))
         (omega (arith, ap (λ (z : Passed). z .lost) q)))
 
-    pub whole-room : Room → k + length (encodeAll (x .out)) ≤ length out
+    whole-room : Room → k + length (encodeAll (x .out)) ≤ length out
     whole-room room = omega (arith, part-room j (omega (arith, w .on)) room, ap length whole-gives)
 
-    pub whole-fits : Counted → Fits (tallied (s .tally) (length cs) (x .dropped) (x .lost))
+    whole-fits : Counted → Fits (tallied (s .tally) (length cs) (x .dropped) (x .lost))
     whole-fits f = subst (λ (z : Course). Fits (z .tally)) whole-leads (part-fits j (omega (arith, w .on)) f)
 
-    pub whole-moves : (m : Moved) (after : List ℕ) → m .at ≡ j → m .written ≡ k + length (encodeAll (x .out)) →
+    whole-moves : (m : Moved) (after : List ℕ) → m .at ≡ j → m .written ≡ k + length (encodeAll (x .out)) →
         courseOf (m .next) (m .tally) ≡ record { pending = []; text = x .next; tally = tallied (s .tally) (length cs) (x .dropped) (x .lost) } →
         after ≡ sets out k (encodeAll (x .out)) → Gap (m .gap) → Moves p o lines s bytes i out k m after
     whole-moves m after e f c a g =
@@ -304,7 +302,7 @@ module _ (p : List ℕ) (o : Options) (lines : Bool) (s : Course) (bytes : List 
     none-is (b ∷ l) h = never h
 
     -- a character
-    pub char-whole : (c j : ℕ) → utf8StepOf bytes i ≡ Char c j → Whole j (c ∷ []) (takeOf p o lines (s .text) c)
+    char-whole : (c j : ℕ) → utf8StepOf bytes i ≡ Char c j → Whole j (c ∷ []) (takeOf p o lines (s .text) c)
     char-whole c j e =
         let n = step-next bytes i c j e in
         let l = length-encode c in
@@ -346,7 +344,7 @@ module _ (p : List ℕ) (o : Options) (lines : Bool) (s : Course) (bytes : List 
             comes = plain-passed p o lines cs c (s .text) (ready-for (s .text) (getD bytes i 0) c cs ready f) (λ x l. h x l .1);
           }
 
-      pub plain-whole : (e : PlainEnd) (r : PlainRun bytes i e) → i < e .at →
+      plain-whole : (e : PlainEnd) (r : PlainRun bytes i e) → i < e .at →
           Whole (e .at) (r .chars) (plainly (s .text) (r .chars) (lastOf 0 (r .chars)))
       plain-whole e r on = plain-some (e .at) (r .chars) on (r .low) (r .bytes) (r .each)
 
@@ -368,7 +366,7 @@ module _ (p : List ℕ) (o : Options) (lines : Bool) (s : Course) (bytes : List 
             (a ∙ ap (sets out k) (r .bytes)) g
 
       -- a line end
-      pub line-whole : (w : ℕ) → w ≡ lineEndAt bytes i → 0 < w →
+      line-whole : (w : ℕ) → w ≡ lineEndAt bytes i → 0 < w →
           (cs : List ℕ) × (length cs ≡ w) × Whole (i + w) cs (lineEnd (s .text) lines)
       line-whole w =
           by (eqb (getD bytes i 0) 0x0A) (λ a. rw a (λ e h. newline w e (eqb-true (getD bytes i 0) 0x0A a)))

@@ -9,7 +9,7 @@ use Prim.Native.Nat.{ℕ, suc, _+_, _-_, _≤_, _<_}
 use mathlib.Core.Path.{_≡_, refl, sym, ap, _∙_}
 use mathlib.Core.Bool.{Bool, true, false, _&&_, _||_}
 use mathlib.Core.List.{List, [], _∷_, _++_, append-nil}
-use mathlib.Core.Logic.{⊎-elim}
+use mathlib.Core.Logic.{_⊎_, inl, inr, ⊎-elim}
 use native.Mathlib.Omega.{arith}
 use lib.Dec.{eqb, leb}
 use lib.ListN.{length, getD, take, drop, length-append, List·getD-append}
@@ -49,21 +49,21 @@ module _ (bs : List ℕ) (f : ℕ) where
 pub one-byte : (bs : List ℕ) (i : ℕ) → plainByte (getD bs i 0) ≡ true → PlainBytes bs i (i + 1)
 one-byte bs i h = more (λ x. plainByte (getD bs x 0) ≡ true) i i (none _ i i (omega arith)) h
 
+-- a byte between two others, or 9
+between : (lo hi b : ℕ) → (leb lo b && leb b hi) || eqb b 9 ≡ true → ((lo ≤ b) × (b ≤ hi)) ⊎ (b ≡ 9)
+between lo hi b h =
+    ⊎-elim (λ t. let u = both-true (leb lo b) (leb b hi) t in inl (leb-true lo b (u .0), leb-true b hi (u .1)))
+    (λ t. inr (eqb-true b 9 t)) (or-cases (leb lo b && leb b hi) (eqb b 9) h)
+
 -- a plain byte is below 80
 low-byte : (b : ℕ) → plainByte b ≡ true → b < 0x80
 unfolding plainByte
-low-byte b h =
-    ⊎-elim (λ t. let u : b ≤ 0x7E = leb-true _ _ (both-true (leb 0x20 b) (leb b 0x7E) t .1) in omega arith)
-    (λ t. let u : b ≡ 9 = eqb-true _ _ t in omega arith)
-    (or-cases (leb 0x20 b && leb b 0x7E) (eqb b 9) h)
+low-byte b h = let c = between _ _ b h in ⊎-elim (λ t. omega arith) (λ t. omega arith) c
 
 -- and no newline
 no-line : (b : ℕ) → plainByte b ≡ true → b ≡ 0x0A → ⊥
 unfolding plainByte
-no-line b h e =
-    ⊎-elim (λ t. let u : 0x20 ≤ b = leb-true _ _ (both-true (leb 0x20 b) (leb b 0x7E) t .0) in omega arith)
-    (λ t. let u : b ≡ 9 = eqb-true _ _ t in omega arith)
-    (or-cases (leb 0x20 b && leb b 0x7E) (eqb b 9) h)
+no-line b h e = let c = between _ _ b h in ⊎-elim (λ t. omega arith) (λ t. omega arith) c
 
 second : (a b c : Bool) → b ≡ true → (a || b) || c ≡ true
 second true b c h = refl
@@ -74,8 +74,8 @@ module _ (gap : Range) (g : Gap gap) where
   sought : (b : ℕ) → plainByte b ≡ true → inSought (asciiOr gap) b ≡ true
   unfolding plainByte inRange
   sought b h =
-      ⊎-elim (λ t. second (inRange (record { first = 9; last = 0xa }) b) (leb 0x20 b && leb b 0x7E) (inGap gap b) t) (λ t. let e : b ≡ 9 = eqb-true _ _ t in rw e)
-      (or-cases (leb 0x20 b && leb b 0x7E) (eqb b 9) h)
+      let c = or-cases _ (eqb b 9) h in
+      ⊎-elim (λ t. second (inRange (record { first = 9; last = 0xa }) b) _ (inGap gap b) t) (λ t. let e : b ≡ 9 = eqb-true _ _ t in rw e) c
 
   pub plain-byte : (b : ℕ) → plainByte b ≡ true → (isChar b ≡ true) × Plain b
   plain-byte b h =
