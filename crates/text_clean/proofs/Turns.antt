@@ -5,14 +5,16 @@
 --     byte-counts, -asks, -ran      one byte, whatever is pending
 --     Whole                         the bytes of a turn are whole characters: what these come to is what the bytes come to
 --     plain-, line-, char-, byte-   the four ways of `advance`: what each asks of places and counts, and where it leads (`-moves`)
+--     then-room, -fits, moves-then  a turn behind a turn: what it asks is what is left, and the two are one
+--     behind-asks, -moves           so a line end behind plain characters (`take_line`); line-taken, -none, -past: its answers
 use Prim.Native.Nat.{ℕ, suc, _+_, _-_, _≤_, _<_}
-use mathlib.Core.Bool.{Bool, true, false, _&&_}
-use mathlib.Core.List.{List, [], _∷_, append-nil}
+use mathlib.Core.Bool.{Bool, true, false, _&&_, or-true}
+use mathlib.Core.List.{List, [], _∷_, _++_, append-nil}
 use mathlib.Core.Path.{_≡_, refl, sym, ap, subst, _∙_}
 use native.Mathlib.Numerals.{add-one}
 use native.Mathlib.Omega.{arith}
-use borrow.Author.Tests.{eqb-true}
-use lib.Dec.{eqb}
+use borrow.Author.Tests.{eqb-true, lt-ltb, le-ltb, ltb-true}
+use lib.Dec.{eqb, ltb}
 use lib.ListN.{length, getD, set, drop, length-append, length-drop, List·getD-eq-default}
 use lib.Seq.{sets, length-sets, drop-cons}
 use Rattle.common.proofs.Kit.{never, by, by-lt, both-true}
@@ -41,11 +43,13 @@ use Rattle.text_clean.specs.declared.text.Text.{Text}
 use Rattle.text_clean.specs.declared.text.Tally.{Tally}
 use Rattle.text_clean.specs.declared.text.Taken.{Taken}
 use Rattle.text_clean.specs.declared.plain.PlainEnd.{PlainEnd}
+use Rattle.text_clean.specs.declared.Cleaner.{Cleaner}
 use Rattle.text_clean.specs.declared.Moved.{Moved}
 use Rattle.text_clean.specs.declared.Ran.{Ran}
 use Rattle.text_clean.specs.Text.{Passed, takeOf, joined, passedOf}
-use Rattle.text_clean.specs.Inner.{Fits, tallied, replacedIn, takenBy, readyFor, passedText, endedText, PlainRun, lineEndAt, isNothing, Course, courseOf, passes, gives, leads, Reached, ranIn, ranBy, Moves}
-use Rattle.text_clean.proofs.Append.{tally-is, course-is, passed-one, passes-one, gives-append, fits-first}
+use Rattle.text_clean.specs.Inner.{Fits, tallied, replacedIn, takenBy, readyFor, passedText, endedText, PlainRun, lineEndAt, LineAsks, lineMoved, lineStored, isNothing, Course, courseOf, passes, gives, leads, Reached, ranIn, ranBy, Moves}
+use Rattle.text_clean.proofs.Append.{tally-is, course-is, passed-one, passes-one, gives-append, leads-append, fits-first}
+use Rattle.text_clean.proofs.plain.Runs.{part-join}
 use Rattle.text_clean.proofs.Ready.{plainly, ready-for, ready-ground, plain-passed, plain-chars, lineEnd, newline-passed, crlf-passed}
 
 -- ---- records by their parts
@@ -459,3 +463,112 @@ module _ (p : List ℕ) (o : Options) (lines : Bool) (s : Course) (bytes : List 
           places = a ∙ ap (λ (l : List ℕ). sets out k (gives p o lines s l)) q;
           gap = g;
         }
+
+-- past the end no line end stands
+past-end : (bytes : List ℕ) (i : ℕ) → length bytes ≤ i → lineEndAt bytes i ≡ 0
+past-end bytes i h = rw (List·getD-eq-default bytes 0 h)
+
+-- ---- a turn behind a turn
+module _ (p : List ℕ) (o : Options) (lines : Bool) (s : Course) (bytes : List ℕ) (i : ℕ) (out : List ℕ) (k : ℕ) (m : Moved) (mid : List ℕ)
+    (v : Moves p o lines s bytes i out k m mid) where
+  -- the bytes of the first, what they give, and where they lead
+  abbrev ns : List ℕ
+  ns = part i (m .at) bytes
+
+  abbrev given : List ℕ
+  given = gives p o lines s ns
+
+  abbrev led : Course
+  led = courseOf (m .next) (m .tally)
+
+  then-gives : (l : List ℕ) → gives p o lines s (ns ++ l) ≡ given ++ gives p o lines led l
+  then-gives l = gives-append p o lines s ns l ∙ ap (λ (z : Course). given ++ gives p o lines z l) (sym (v .course))
+
+  then-leads : (l : List ℕ) → leads p o lines s (ns ++ l) ≡ leads p o lines led l
+  then-leads l = leads-append p o lines s ns l ∙ ap (λ (z : Course). leads p o lines z l) (sym (v .course))
+
+  then-room : Room p o lines s bytes i out k → Room p o lines led bytes (m .at) mid (m .written)
+  then-room room =
+      let rest = drop (m .at) bytes in
+      let e = ap (gives p o lines s) (cut bytes i (m .at) (omega (arith, v .on))) ∙ then-gives rest in
+      let n = ap length e ∙ length-append given (gives p o lines led rest) in
+      let l = ap length (v .places) ∙ length-sets out k given in
+      omega (arith, room, n, l, v .written)
+
+  then-fits : Counted p o lines s bytes i out k → Counted p o lines led bytes (m .at) mid (m .written)
+  then-fits f =
+      let e = ap (leads p o lines s) (cut bytes i (m .at) (omega (arith, v .on))) ∙ then-leads (drop (m .at) bytes) in
+      subst (λ (z : Course). Fits (z .tally)) e f
+
+  moves-then : (n : Moved) (after : List ℕ) → Moves p o lines led bytes (m .at) mid (m .written) n after → Moves p o lines s bytes i out k n after
+  moves-then n after w =
+      let ms = part (m .at) (n .at) bytes in
+      let q = part-join bytes i (m .at) (n .at) (omega (arith, v .on)) (omega (arith, w .on)) in
+      let g = ap (gives p o lines s) (sym q) ∙ then-gives ms in
+      record {
+        on = omega (arith, v .on, w .on);
+        low = w .low;
+        written = omega (arith, w .written, v .written, ap length g ∙ length-append given (gives p o lines led ms));
+        course = w .course ∙ sym (then-leads ms) ∙ ap (leads p o lines s) q;
+        places =
+            w .places ∙ ap (λ (l : List ℕ). sets l (m .written) (gives p o lines led ms)) (v .places)
+            ∙ ap (λ (x : ℕ). sets (sets out k given) x (gives p o lines led ms)) (v .written)
+            ∙ sym (sets-append given (gives p o lines led ms) out k) ∙ ap (sets out k) (sym g);
+        gap = w .gap;
+      }
+
+  -- ---- a line end behind plain characters, the last of them c
+  module _ (t : Text) (c : ℕ) (e : m .next ≡ record { pending = NoBytes; text = passedText t c }) where
+    none-behind : isNothing (led .pending) ≡ true
+    none-behind = rw e
+
+    ready-behind : readyFor (led .text) (getD bytes (m .at) 0) ≡ true
+    ready-behind = rw e (or-true (ltb (getD bytes (m .at) 0) 0x80))
+
+    line-here : 0 < lineEndAt bytes (m .at) → m .at < length bytes
+    line-here h = by-lt (m .at) (length bytes) (λ l. l) (λ l. absurd (omega (arith, h, past-end bytes (m .at) l)))
+
+    pub behind-asks : Room p o lines s bytes i out k → Counted p o lines s bytes i out k →
+        LineAsks (lineEndAt bytes (m .at)) bytes (m .at) mid (m .written) (m .tally)
+    behind-asks room f =
+        record {
+          low = λ h. line-low p o lines led bytes (m .at) mid (m .written) (line-here h) none-behind ready-behind _ refl h;
+          room = λ h. line-room p o lines led bytes (m .at) mid (m .written) (line-here h) none-behind ready-behind _ refl h (then-room room);
+          fits = λ h. line-fits p o lines led bytes (m .at) mid (m .written) (line-here h) none-behind ready-behind _ refl h (then-fits f);
+        }
+
+    behind-by : (w : ℕ) → w ≡ lineEndAt bytes (m .at) → (after : List ℕ) → after ≡ lineStored w mid (m .written) →
+        Moves p o lines s bytes i out k (lineMoved w (m .next .text) lines (m .at) (m .gap) (m .written) (m .tally)) after
+    behind-by w q after =
+        by (ltb 0 w)
+        (λ h. rw h
+        (λ a.
+        let some : 0 < w = ltb-true 0 w h in
+        let here = line-here (omega (arith, some, q)) in
+        moves-then _ after
+        (line-moves p o lines led bytes (m .at) mid (m .written) here none-behind ready-behind w q some _ refl _ refl after a (m .gap) (v .gap))))
+        (λ h. rw h (λ a. rw (a, sym (ap (λ (z : Cleaner). z .pending) e)) v))
+
+    pub behind-moves : (r : Moved) → r ≡ lineMoved (lineEndAt bytes (m .at)) (m .next .text) lines (m .at) (m .gap) (m .written) (m .tally) →
+        (after : List ℕ) → after ≡ lineStored (lineEndAt bytes (m .at)) mid (m .written) → Moves p o lines s bytes i out k r after
+    behind-moves r q after a = subst (λ (z : Moved). Moves p o lines s bytes i out k z after) (sym q) (behind-by _ refl after a)
+
+-- what `take_line` answers and leaves
+module _ (t : Text) (lines : Bool) (bytes : List ℕ) (at : ℕ) (gap : Range) (out : List ℕ) (k : ℕ) (tally : Tally) where
+  abbrev Lined : ℕ → Moved → List ℕ → Type 0
+  Lined w r after = (r ≡ lineMoved w t lines at gap k tally) × (after ≡ lineStored w out k)
+
+  lined : (w : ℕ) → w ≡ lineEndAt bytes at → (r : Moved) (after : List ℕ) → Lined w r after → Lined (lineEndAt bytes at) r after
+  lined w e r after = subst (λ (x : ℕ). Lined w r after → Lined x r after) e (λ h. h)
+
+  pub line-taken : (w : ℕ) → w ≡ lineEndAt bytes at → 0 < w → (next : Text) → next ≡ endedText t lines → (q : Tally) → q ≡ tallied tally w 0 0 →
+      Lined (lineEndAt bytes at) (record { at = at + w; written = k + 1; next = record { pending = NoBytes; text = next }; tally = q; gap = gap }) (set out k 0x0A)
+  line-taken w e some next f q g = lined w e _ _ (rw (lt-ltb 0 w some, f, g) (refl, refl))
+
+  pub line-none : (w : ℕ) → w ≡ lineEndAt bytes at → w ≤ 0 →
+      Lined (lineEndAt bytes at) (record { at = at; written = k; next = record { pending = NoBytes; text = t }; tally = tally; gap = gap }) out
+  line-none w e none = lined w e _ _ (rw (le-ltb 0 w none) (refl, refl))
+
+  pub line-past : length bytes ≤ at →
+      Lined (lineEndAt bytes at) (record { at = at; written = k; next = record { pending = NoBytes; text = t }; tally = tally; gap = gap }) out
+  line-past past = line-none 0 (sym (past-end bytes at past)) (omega arith)

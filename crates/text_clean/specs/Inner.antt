@@ -4,12 +4,14 @@ use mathlib.Core.Bool.{Bool, true, false, cond, not, _&&_, _||_}
 use mathlib.Core.List.{List, [], _∷_}
 use mathlib.Core.Path.{_≡_}
 use lib.Dec.{eqb, leb, ltb}
-use lib.ListN.{length, getD}
+use lib.ListN.{length, getD, set}
 use lib.Seq.{sets}
 use Rattle.unicode.specs.Chars.{isChar}
 use Rattle.unicode.specs.Utf8.{encodeAll}
+use Rattle.ranges.specs.declared.Range.{Range}
 use Rattle.stretch.specs.Stretch.{part}
 use Rattle.stretch.specs.Plain.{Plain, Gap}
+use Rattle.utf8_lossy.specs.declared.Pending.the-variants.{Nothing as NoBytes}
 use Rattle.utf8_lossy.specs.Machine.{outsOf, restOf, replacedOf}
 use Rattle.utf8_lossy.specs.Decode.{pendingOf}
 use Rattle.text_input.specs.declared.State.the-variants.{Ground}
@@ -107,6 +109,24 @@ pub record PlainRun (bs : List ℕ) (f : ℕ) (e : PlainEnd) : Type 0 where
 abbrev pub lineEndAt : List ℕ → ℕ → ℕ
 lineEndAt bs i =
     cond (eqb (getD bs i 0) 0x0A) 1 (cond (eqb (getD bs i 0) 0x0D && eqb (getD bs (i + 1) 0) 0x0A) 2 0)
+
+-- ---- a line end behind a run of plain characters: w bytes at a place, none where w is 0
+-- what it asks of the bytes, of the places from k on, and of the counts
+pub record LineAsks (w : ℕ) (bytes : List ℕ) (at : ℕ) (out : List ℕ) (k : ℕ) (tally : Tally) : Type 0 where
+  pub low : 0 < w → at + w ≤ length bytes
+  pub room : 0 < w → k < length out
+  pub fits : 0 < w → Fits (tallied tally w 0 0)
+
+-- how far bytes and places are taken with it, the text behind it, and what is counted
+abbrev pub lineMoved : ℕ → Text → Bool → ℕ → Range → ℕ → Tally → Moved
+lineMoved w t lines at gap k tally =
+    cond (ltb 0 w)
+    (record { at = at + w; written = k + 1; next = record { pending = NoBytes; text = endedText t lines }; tally = tallied tally w 0 0; gap = gap })
+    (record { at = at; written = k; next = record { pending = NoBytes; text = t }; tally = tally; gap = gap })
+
+-- and the places after it
+abbrev pub lineStored : ℕ → List ℕ → ℕ → List ℕ
+lineStored w out k = cond (ltb 0 w) (set out k 0x0A) out
 
 -- ---- bytes
 abbrev pub isNothing : List ℕ → Bool

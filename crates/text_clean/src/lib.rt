@@ -39,7 +39,7 @@ ghost use Rattle.stretch.specs.Plain.{Gap};
 ghost use Rattle.utf8_lossy.specs.Decode.{pendingOf, charsOut};
 ghost use Rattle.text_clean.specs.Text.{freshText, passedOf};
 ghost use Rattle.text_clean.specs.Clean.{outcome, cleanOf, finishOf};
-ghost use Rattle.text_clean.specs.Inner.{noTally, Fits, tallied, takenBy, isNothing, replacedIn, countsOf, isShort, Course, courseOf, gives, leads, ranIn, ranBy, Moves};
+ghost use Rattle.text_clean.specs.Inner.{noTally, Fits, tallied, takenBy, lineEndAt, LineAsks, lineMoved, lineStored, isNothing, replacedIn, countsOf, isShort, Course, courseOf, gives, leads, ranIn, ranBy, Moves};
 
 // The cleaner's record: the bytes of a character that a chunk's end cut off, and the text so far.
 pub struct Cleaner {
@@ -181,6 +181,51 @@ fn take_out(
     }
 }
 
+// The line end behind a run of plain characters, where one stands at that place, and its newline stored at place k. Most rows end so, and
+// it saves them a turn. Inner: asks for room, and that the counts fit, where a line end stands there.
+fn take_line(
+    text: Text,
+    lines: bool,
+    bytes: &[u8],
+    at: usize,
+    gap: Range,
+    out: &mut [u8],
+    k: usize,
+    tally: Tally,
+) -> Moved
+    requires { ⌜ LineAsks (lineEndAt (now bytes) at) (now bytes) at (now out) k tally ⌝ }
+    ensures moved { λ r. ⌜ r ≡ lineMoved (lineEndAt (now (bytes .entry)) at) text lines at gap k tally ⌝ }
+    ensures places { λ r. ⌜ now (out .exit) ≡ lineStored (lineEndAt (now (bytes .entry)) at) (now (out .entry)) k ⌝ }
+{
+    if at < bytes.len() {
+        let width = line_end(bytes, at);
+        if 0 < width {
+            out[k] = 0xa;
+            let next = text.ended(lines);
+            return Moved {
+                at: at + width,
+                written: k + 1,
+                next: Cleaner {
+                    pending: Pending::Nothing,
+                    text: next,
+                },
+                tally: tally_read(tally, width),
+                gap,
+            };
+        }
+    }
+    Moved {
+        at,
+        written: k,
+        next: Cleaner {
+            pending: Pending::Nothing,
+            text,
+        },
+        tally,
+        gap,
+    }
+}
+
 impl Cleaner {
     // A record as first made.
     pub fn new() -> Self
@@ -229,8 +274,8 @@ impl Cleaner {
         }
     }
 
-    // A byte or more from place i on, and their output from place k on: a run of plain characters that is copied, a line end, one
-    // character, or one byte of one that is cut off or no UTF-8. Inner: asks for an accepted page, for a byte at i, for a gap, for
+    // A byte or more from place i on, and their output from place k on: a run of plain characters that is copied, with a line end behind
+    // it, a line end, one character, or one byte of one that is cut off or no UTF-8. Inner: asks for an accepted page, for a byte at i, for a gap, for
     // room for all that is left, and that its counts fit.
     fn advance(
         self,
@@ -260,16 +305,8 @@ impl Cleaner {
                 if i < end {
                     copy_run(&bytes[i..end], out, k);
                     let next = text.passed(run.last);
-                    return Moved {
-                        at: end,
-                        written: k + (end - i),
-                        next: Cleaner {
-                            pending: Pending::Nothing,
-                            text: next,
-                        },
-                        tally: tally_read(tally, run.chars),
-                        gap,
-                    };
+                    let sofar = tally_read(tally, run.chars);
+                    return take_line(next, lines, bytes, end, gap, out, k + (end - i), sofar);
                 }
                 let width = line_end(bytes, i);
                 if 0 < width {

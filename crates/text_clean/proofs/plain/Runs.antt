@@ -5,6 +5,7 @@
 --     run-begin           none passed
 --     run-bytes           plain bytes behind it: each is a character, and its own encoding
 --     run-char            a character of a gap behind it
+--     part-join           two parts of a list that join
 use Prim.Native.Nat.{ℕ, suc, _+_, _-_, _≤_, _<_}
 use mathlib.Core.Path.{_≡_, refl, sym, ap, _∙_}
 use mathlib.Core.Bool.{Bool, true, false, _&&_, _||_}
@@ -82,7 +83,7 @@ module _ (gap : Range) (g : Gap gap) where
       (char-low b (omega (arith, low-byte b h)), sought-kept gap g b (sought b h) (ne-eqb b 0x0A (no-line b h)))
 
 -- ---- lists
-part-join : (bs : List ℕ) (f i t : ℕ) → f ≤ i → i ≤ t → part f i bs ++ part i t bs ≡ part f t bs
+pub part-join : (bs : List ℕ) (f i t : ℕ) → f ≤ i → i ≤ t → part f i bs ++ part i t bs ≡ part f t bs
 part-join bs f i t l g =
     let e : f + (i - f) ≡ i = omega arith in
     let n : t - f ≡ (i - f) + (t - i) = omega arith in

@@ -1,7 +1,7 @@
--- `advance` meets its contract: a run of plain characters, a line end or a character where nothing is pending, and else one byte
--- (proofs/Turns.antt).
+-- `advance` meets its contract: a run of plain characters and the line end behind it, a line end or a character where nothing is
+-- pending, and else one byte (proofs/Turns.antt).
 use Prim.Native.Nat.{_+_, _-_, _≤_, _<_}
-use mathlib.Core.Path.{_≡_, refl, sym, _∙_}
+use mathlib.Core.Path.{_≡_, refl, sym, ap, _∙_}
 use mathlib.Core.Bool.{true}
 use native.Mathlib.Omega.{arith}
 use lib.ListN.{length, getD}
@@ -9,8 +9,11 @@ use borrow.Author.Needs.{needs}
 use Rattle.utf8_lossy.specs.Decode.{pendingOf}
 use Rattle.stretch.specs.Stretch.{part}
 use Rattle.stretch.proofs.Parts.{part-length}
-use Rattle.text_clean.specs.Inner.{isNothing, readyFor, courseOf}
-use Rattle.text_clean.proofs.Turns.{plain-room, plain-fits, plain-moves, line-room, line-low, line-fits, line-moves, char-asks, char-moves, byte-room, byte-fits, byte-moves}
+use Rattle.utf8_lossy.specs.declared.Pending.the-variants.{Nothing as NoBytes}
+use Rattle.text_clean.specs.declared.text.Text.{Text}
+use Rattle.text_clean.specs.declared.Moved.{Moved}
+use Rattle.text_clean.specs.Inner.{isNothing, readyFor, passedText, courseOf, Moves}
+use Rattle.text_clean.proofs.Turns.{plain-room, plain-fits, plain-moves, line-room, line-low, line-fits, line-moves, char-asks, char-moves, byte-room, byte-fits, byte-moves, behind-asks, behind-moves}
 use Rattle.text_clean.proofs.Cleaner.advance.Statement.{statement}
 use Rattle.text_clean.proofs.Cleaner.advance.Tie as tie
 
@@ -54,8 +57,34 @@ module _ (m : tie.Then3) where
         s .good,
       )
 
-add-t39 : tie.Need-add-t39
-add-t39 c = record { fits = run-fits (c .before .before .before .before .before .before) }
+-- and where it leads
+module _ (c : tie.After-tally-read) where
+  abbrev filled : tie.After-copy-run
+  filled = c .before .before .before .before
+
+  abbrev m : tie.Then3
+  m = filled .before .before .before
+
+  abbrev moved : Moved
+  moved =
+      record {
+        at = run m .plain-run .result .at;
+        written = s m .args .k + (run m .plain-run .result .at - s m .args .i);
+        next = record { pending = NoBytes; text = c .before .passed .result };
+        tally = c .tally-read .result;
+        gap = s m .args .gap;
+      }
+
+  run-moves : Moves (s m .args .page .now) (s m .args .options) (s m .args .lines) (courseOf (s m .args .self) (s m .args .tally)) (s m .args .bytes .now)
+      (s m .args .i) (s m .args .out .now) (s m .args .k) moved (filled .copy-run .last .1 .0)
+  run-moves =
+      let a = s m .args in
+      plain-moves (a .page .now) (a .options) (a .lines) (courseOf (a .self) (a .tally)) (a .bytes .now) (a .i) (a .out .now) (a .k) (s m .pre .1 .0)
+      (nothing (first m)) (ready (run m .before)) (run m .plain-run .result) (run m .plain-run .ensures) (m .if3 .taken)
+      _ (c .before .passed .ensures) _ (c .tally-read .ensures) _ (filled .copy-run .ensures) _ (s m .pre .1 .1 .0)
+
+  passed-is : moved .next ≡ record { pending = NoBytes; text = passedText (s m .args .self .text) (run m .plain-run .result .last) }
+  passed-is = ap (λ (t : Text). record { pending = NoBytes; text = t }) (c .before .passed .ensures)
 
 tally-read-requires : tie.Need-tally-read-requires
 tally-read-requires c κs =
@@ -64,14 +93,21 @@ tally-read-requires c κs =
     plain-fits (a .page .now) (a .options) (a .lines) (courseOf (a .self) (a .tally)) (a .bytes .now) (a .i) (a .out .now) (a .k) (s m .pre .1 .0)
     (nothing (first m)) (ready (run m .before)) (run m .plain-run .result) (run m .plain-run .ensures) (m .if3 .taken) (s m .pre .1 .1 .1 .1)
 
+take-line-requires : tie.Need-take-line-requires
+take-line-requires c κs =
+    let d = c .before in
+    let q = s (m d) in
+    let a = q .args in
+    behind-asks (a .page .now) (a .options) (a .lines) (courseOf (a .self) (a .tally)) (a .bytes .now) (a .i) (a .out .now) (a .k) (moved d) _ (run-moves d)
+    (a .self .text) _ (passed-is d) (q .pre .1 .1 .1 .0) (q .pre .1 .1 .1 .1)
+
 returns : tie.Need-returns
 returns c =
-    let q = c .before .before .before .before in
-    let m = q .before .before .before in
-    let a = s m .args in
-    plain-moves (a .page .now) (a .options) (a .lines) (courseOf (a .self) (a .tally)) (a .bytes .now) (a .i) (a .out .now) (a .k) (s m .pre .1 .0)
-    (nothing (first m)) (ready (run m .before)) (run m .plain-run .result) (run m .plain-run .ensures) (m .if3 .taken)
-    _ (c .before .passed .ensures) _ (c .tally-read .ensures) _ (q .copy-run .ensures) _ (s m .pre .1 .1 .0)
+    let l = c .before .before in
+    let d = l .before .before in
+    let a = s (m d) .args in
+    behind-moves (a .page .now) (a .options) (a .lines) (courseOf (a .self) (a .tally)) (a .bytes .now) (a .i) (a .out .now) (a .k) (moved d) _ (run-moves d)
+    (a .self .text) _ (passed-is d) _ (l .take-line .ensures .0) _ (l .take-line .ensures .1)
 
 -- ---- a line end
 module _ (m : tie.Then4) where
@@ -186,9 +222,10 @@ advance-spec =
     (λ c. search needs)
     (λ c κs. run-room (c .before .before))
     (λ c κs. search needs)
-    (λ c. search needs)
-    add-t39
     tally-read-requires
+    (λ c. search needs)
+    (λ c. record { fits = run-fits (m (c .before)) })
+    take-line-requires
     (λ c. search needs)
     returns
     (λ c κs. search needs)
