@@ -3,7 +3,8 @@
 -- Idea: which characters stand in escapes is known (`marks-are`); a 0D that one takes is counted with the character after it, or at the
 -- end, and so exactly where no 0A follows.
 --     trues, endsBy       what marks count
---     run                 a text by steps alone; run-dropped, run-lost: it counts by its marks
+--     run                 a text by steps alone; run-dropped, run-lost: it counts by its marks; run-escaped, run-swallowed: by its
+--                         pieces; run-is: a text that has begun is one, where no line ends by `lines`
 --     ends-are            lost line ends one by one, and by what follows
 --     text-counts         what is counted of a text, lines or not; line-counts: of a line with its 0A
 --     texts-counted       THE COUNTS; counts-only: no texts have two
@@ -20,6 +21,7 @@ use Rattle.common.proofs.Kit.{both, both-true}
 use Rattle.utf8_lossy.proofs.Reading.{decoded, only}
 use Rattle.text_input.specs.declared.Options.{Options}
 use Rattle.text_input.specs.declared.State.{State}
+use Rattle.text_input.specs.declared.State.the-variants.{Ground}
 use Rattle.text_input.specs.Sets.{optionalLine}
 use Rattle.text_input.specs.Scan.{fresh, leadingBom}
 use Rattle.text_input.specs.Pieces.{optionChar, Piece, join, Reading}
@@ -106,7 +108,7 @@ module _ (o : Options) (lines : Bool) where
 
 module _ (p : List ℕ) (o : Options) (lines : Bool) where
   -- ---- a text by steps alone
-  abbrev run : Text → List ℕ → Passed
+  abbrev pub run : Text → List ℕ → Passed
   run t [] = record { out = []; next = t; dropped = 0; lost = 0 }
   run t (c ∷ cs) = joined (steppedOf p o lines t c) (run (steppedOf p o lines t c .next) cs)
 
@@ -124,26 +126,30 @@ module _ (p : List ℕ) (o : Options) (lines : Bool) where
       let k = ap (λ (s : State). lostBy o lines cr cs (marks o s cs)) (step-state o p (begun (t .input)) c) in
       omega (arith, run-lost (steppedOf p o lines t c .next) cs, k)
 
-  -- from a text that has begun, by its reading
+  -- a text that has begun
   abbrev begunText : Text
   begunText = record { input = begun fresh; cr = false }
 
-  module _ (cs : List ℕ) (xs : List Piece) (read : Reading o cs xs) where
-    marks-read : marks o (begunText .input .state) cs ≡ pieceMarks xs
-    marks-read = ap (marks o (begunText .input .state)) (sym (read .joined)) ∙ marks-are o xs (read .longest) true
+  -- any text where nothing is pending, and no 0D that an escape took
+  module _ (t : Text) (b : Bool) (ground : t .input .state ≡ Ground b) (quiet : t .cr ≡ false)
+      (cs : List ℕ) (xs : List Piece) (read : Reading o cs xs) where
+    marks-read : marks o (t .input .state) cs ≡ pieceMarks xs
+    marks-read =
+        ap₂ (λ (s : State) (l : List ℕ). marks o s l) ground (sym (read .joined)) ∙ marks-are o xs (read .longest) b
 
-    run-escaped : run begunText cs .dropped ≡ escaped xs
-    run-escaped = run-dropped begunText cs ∙ ap trues marks-read ∙ trues-are xs
+    pub run-escaped : run t cs .dropped ≡ escaped xs
+    run-escaped = run-dropped t cs ∙ ap trues marks-read ∙ trues-are xs
 
-    run-swallowed : run begunText cs .lost + bit (run begunText cs .next .cr) ≡ swallowed o lines xs
+    pub run-swallowed : run t cs .lost + bit (run t cs .next .cr) ≡ swallowed o lines xs
     run-swallowed =
-        run-lost begunText cs
-        ∙ ends-are o lines false cs (marks o (begunText .input .state) cs)
+        run-lost t cs
+        ∙ ap (λ (cr : Bool). lostBy o lines cr cs (marks o (t .input .state) cs)) quiet
+        ∙ ends-are o lines false cs (marks o (t .input .state) cs)
         ∙ ap₂ (λ (l : List ℕ) (ms : List Bool). 0 + endsBy o lines l ms) (sym (read .joined)) marks-read
         ∙ omega (arith, swallowed-are o lines xs)
 
   -- ---- where no line ends by `lines`, a text that has begun goes by steps alone
-  abbrev calm : List ℕ → Bool
+  abbrev pub calm : List ℕ → Bool
   calm [] = true
   calm (c ∷ cs) = not (lines && eqb c 0x0A) && calm cs
 
@@ -152,7 +158,7 @@ module _ (p : List ℕ) (o : Options) (lines : Bool) where
   unfolding takeOf
   take-calm t h c k = rw (h, is-no (lines && eqb c 0x0A) k)
 
-  run-is : (t : Text) → t .input .«at_start» ≡ false → (cs : List ℕ) → calm cs ≡ true → passedOf p o lines t cs ≡ run t cs
+  pub run-is : (t : Text) → t .input .«at_start» ≡ false → (cs : List ℕ) → calm cs ≡ true → passedOf p o lines t cs ≡ run t cs
   run-is t h [] k = refl
   run-is t h (c ∷ cs) k =
       let q = both-true (not (lines && eqb c 0x0A)) (calm cs) k in
@@ -204,8 +210,8 @@ module _ (p : List ℕ) (o : Options) (lines : Bool) where
       let c = ap (λ (x : Passed). bit (x .next .cr)) e in
       let n = ap bit (b .cr) in
       record {
-        dropped = omega (arith, b .dropped, d, run-escaped (withoutBom cs) xs read);
-        lost = omega (arith, b .lost, l, n, c, run-swallowed (withoutBom cs) xs read);
+        dropped = omega (arith, b .dropped, d, run-escaped begunText true refl refl (withoutBom cs) xs read);
+        lost = omega (arith, b .lost, l, n, c, run-swallowed begunText true refl refl (withoutBom cs) xs read);
       }
 
 -- ---- a line with its 0A
@@ -258,8 +264,8 @@ module _ (p : List ℕ) (o : Options) where
       let b = begins p o true cs in
       let r = subst (LineRun (begunText p o true)) (sym (without-line ds))
       (line-run (begunText p o true) refl (withoutBom ds) (plain-without ds h)) in (
-        omega (arith, b .dropped, r .0, run-escaped p o true (withoutBom cs) xs read),
-        omega (arith, b .lost, r .1, run-swallowed p o true (withoutBom cs) xs read),
+        omega (arith, b .dropped, r .0, run-escaped p o true (begunText p o true) true refl refl (withoutBom cs) xs read),
+        omega (arith, b .lost, r .1, run-swallowed p o true (begunText p o true) true refl refl (withoutBom cs) xs read),
       )
 
   -- ---- THE COUNTS
@@ -280,7 +286,7 @@ module _ (p : List ℕ) (o : Options) where
       let l = ap (λ (x : Passed). x .lost + bit (x .next .cr)) e in
       same-counts (more (decoded bs [] (inl refl)) (r .1) none) (omega (arith, c .dropped, d)) (omega (arith, c .lost, l))
 
-  calm-false : (cs : List ℕ) → calm p o false cs ≡ true
+  pub calm-false : (cs : List ℕ) → calm p o false cs ≡ true
   calm-false [] = refl
   calm-false (c ∷ cs) = calm-false cs
 

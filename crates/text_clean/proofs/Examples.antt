@@ -173,6 +173,22 @@ table =
     -- a 0D ends no line
     ∷ each (clean (0x61 ∷ 0x0D ∷ 0xEF ∷ 0xBB ∷ 0xBF ∷ 0x62 ∷ []) ∷ finish true ∷ [])
     (told (0x61 ∷ 0x0A ∷ 0xE2 ∷ 0x81 ∷ 0xA0 ∷ 0x62 ∷ []) 4 0 0 0 ∷ ended ∷ [])
+    -- a push ends a pending 0D, so that a 0A behind it is a line end of its own; and a pending page run
+    ∷ one (clean (0x61 ∷ 0x0D ∷ []) ∷ finish false ∷ clean (0x0A ∷ 0x62 ∷ []) ∷ finish true ∷ [])
+    (told (0x61 ∷ []) 2 0 0 0 ∷ ended ∷ told (0x0A ∷ 0x62 ∷ []) 2 0 0 0 ∷ ended ∷ [])
+    ∷ one (clean (0x0C ∷ []) ∷ finish false ∷ clean (0x0A ∷ []) ∷ finish true ∷ [])
+    (told [] 1 0 0 0 ∷ told (0x20 ∷ []) 0 0 0 0 ∷ told (0x0A ∷ []) 1 0 0 0 ∷ silent ∷ [])
+    -- it puts 34F behind what is no end, and expects a start again
+    ∷ one (clean (0xE2 ∷ 0x80 ∷ 0x8D ∷ []) ∷ finish false ∷ clean (0xE2 ∷ 0x80 ∷ 0x8D ∷ []) ∷ finish false ∷ [])
+    (told (0xCD ∷ 0x8F ∷ 0xE2 ∷ 0x80 ∷ 0x8D ∷ []) 1 0 0 0 ∷ told (0xCD ∷ 0x8F ∷ []) 0 0 0 0
+    ∷ told (0xCD ∷ 0x8F ∷ 0xE2 ∷ 0x80 ∷ 0x8D ∷ []) 1 0 0 0 ∷ told (0xCD ∷ 0x8F ∷ []) 0 0 0 0 ∷ [])
+    -- the 0A that it does not add is owed, and added once
+    ∷ one (clean (0x61 ∷ []) ∷ finish false ∷ finish true ∷ finish true ∷ []) (told (0x61 ∷ []) 1 0 0 0 ∷ silent ∷ ended ∷ silent ∷ [])
+    -- a finish spends no chance to drop U+FEFF, and gives none back, as end of file too
+    ∷ one (finish false ∷ clean (0xEF ∷ 0xBB ∷ 0xBF ∷ 0x61 ∷ []) ∷ finish false ∷ clean (0xEF ∷ 0xBB ∷ 0xBF ∷ 0x62 ∷ []) ∷ finish true ∷ [])
+    (silent ∷ told (0x61 ∷ []) 2 0 1 0 ∷ silent ∷ told (0xE2 ∷ 0x81 ∷ 0xA0 ∷ 0x62 ∷ []) 2 0 0 0 ∷ ended ∷ [])
+    ∷ one (clean (0x61 ∷ []) ∷ finish true ∷ clean (0xEF ∷ 0xBB ∷ 0xBF ∷ 0x62 ∷ []) ∷ finish true ∷ [])
+    (told (0x61 ∷ []) 1 0 0 0 ∷ ended ∷ told (0xE2 ∷ 0x81 ∷ 0xA0 ∷ 0x62 ∷ []) 2 0 0 0 ∷ ended ∷ [])
     ∷ []
 
 pub examples : map computed table ≡ map (λ (x : Row). x .expected) table

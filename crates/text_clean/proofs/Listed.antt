@@ -1,7 +1,8 @@
 -- A list of calls, refused ones in between, comes to the accepted bytes and a finish. A call is accepted exactly where its refusal's
 -- number is 0, and what its definition then gives is what its bytes, or the finish, give from the record on; a refused call gives the
 -- record back. So it goes by the list.
---     accepts-told    a call answers 0 exactly where it is accepted
+--     accepts-told    a call answers 0 exactly where it is accepted; call-is: what it comes to by that; fits: and has room for
+--     Listed          what calls had written and counted; add, pass: with an accepted call before them, with a refused one
 --     Whole           the output and the counts are those of the bytes and a finish, from pending bytes and a text on
 --     listed          THE LIST
 use Prim.Native.Nat.{ℕ, zero, suc, _+_, _*_, _≤_}
@@ -35,16 +36,16 @@ use Rattle.text_clean.proofs.Reading.{joined-assoc, endOf, wholeFrom}
 use Rattle.text_clean.proofs.Lines.{is-no}
 
 -- ---- one call, by whether it is accepted
-abbrev refusalBy : Call → ℕ
+abbrev pub refusalBy : Call → ℕ
 refusalBy (clean p o lines bs places) = refusalOf p (placesForBytes (length bs)) (length places)
 refusalBy (finish p o eof places) = refusalOf p 8 (length places)
 
-abbrev lent : Call → List ℕ
+abbrev pub lent : Call → List ℕ
 lent (clean p o lines bs places) = places
 lent (finish p o eof places) = places
 
 -- what an accepted one comes to, what is pending after it, and what it counts
-abbrev passedBy : Cleaner → Call → Passed
+abbrev pub passedBy : Cleaner → Call → Passed
 passedBy r (clean p o lines bs places) = passedOf p o lines (r .text) (charsIn r bs)
 passedBy r (finish p o eof places) = lastOf r p o eof
 
@@ -60,7 +61,7 @@ abbrev replacedBy : Cleaner → Call → ℕ
 replacedBy r (clean p o lines bs places) = replacedOf (pendingOf (r .pending)) bs
 replacedBy r (finish p o eof places) = length (pendingOf (r .pending))
 
-abbrev outcomeBy : Bool → Cleaner → Call → Outcome
+abbrev pub outcomeBy : Bool → Cleaner → Call → Outcome
 outcomeBy b r c =
     cond b (done (readBy r c) (replacedBy r c) (pendingBy r c) (passedBy r c) (lent c)) (refused r (refusalBy c) (lent c))
 
@@ -88,7 +89,7 @@ accepts-is (clean p o lines bs places) =
 accepts-is (finish p o eof places) =
     ap (λ b. accepted p && b) (leb-is 8 (length places)) ∙ none-by (accepted p) (ltb (length places) 8)
 
-call-is : (r : Cleaner) (c : Call) → callOf r c ≡ outcomeBy (accepts c) r c
+pub call-is : (r : Cleaner) (c : Call) → callOf r c ≡ outcomeBy (accepts c) r c
 call-is r c = call-by r c ∙ ap (λ b. outcomeBy b r c) (sym (accepts-is c))
 
 told-by : (r : Cleaner) (c : Call) (b : Bool) → eqb (refusalBy c) 0 ≡ b → eqb (refusalIn (outcomeBy b r c .numbers)) 0 ≡ b
@@ -108,7 +109,7 @@ pub record Listed (out : List ℕ) (read replaced dropped lost : ℕ) (seen : Li
   pub dropped-is : totalOf droppedIn seen ≡ dropped
   pub lost-is : totalOf lostIn seen ≡ lost
 
-same : {u v : List ℕ} {a b c d e f g h : ℕ} (seen : List Answered) → Listed u a c e g seen → u ≡ v → a ≡ b → c ≡ d → e ≡ f → g ≡ h →
+pub same : {u v : List ℕ} {a b c d e f g h : ℕ} (seen : List Answered) → Listed u a c e g seen → u ≡ v → a ≡ b → c ≡ d → e ≡ f → g ≡ h →
     Listed v b d f h seen
 same seen l p q r s t =
     record {
@@ -121,7 +122,7 @@ same seen l p q r s t =
     }
 
 -- a call that was accepted, before others
-add : (s : Answered) (read replaced : ℕ) (q : List ℕ) (x : Passed) (places : List ℕ) →
+pub add : (s : Answered) (read replaced : ℕ) (q : List ℕ) (x : Passed) (places : List ℕ) →
     outcome (s .returned) (s .places) ≡ done read replaced q x places → length (encodeAll (x .out)) ≤ length places →
     {w : List ℕ} {a b d l : ℕ} (seen : List Answered) → Listed w a b d l seen →
     Listed (x .out ++ w) (read + a) (replaced + b) (x .dropped + d) (x .lost + l) (s ∷ seen)
@@ -144,7 +145,7 @@ add s read replaced q x places e h {w} seen m =
     }
 
 -- a call that was refused
-pass : (s : Answered) (r : Cleaner) (k : ℕ) (places : List ℕ) → outcome (s .returned) (s .places) ≡ refused r k places →
+pub pass : (s : Answered) (r : Cleaner) (k : ℕ) (places : List ℕ) → outcome (s .returned) (s .places) ≡ refused r k places →
     {w : List ℕ} {a b d l : ℕ} (seen : List Answered) → Listed w a b d l seen → Listed w a b d l (s ∷ seen)
 unfolding outputOf totalOf
 pass s r k places e seen m =
@@ -159,7 +160,7 @@ pass s r k places e seen m =
     }
 
 -- the accepted calls of a list whose first is accepted or not
-abbrev leftBy : Bool → Call → List Call → List Call
+abbrev pub leftBy : Bool → Call → List Call → List Call
 leftBy b c cs = cond b (c ∷ acceptedOf cs) (acceptedOf cs)
 
 cons-nil : {A : Type 0} {P : Type 0} (x : A) (l : List A) → x ∷ l ≡ [] → P
@@ -208,7 +209,7 @@ module _ (p : List ℕ) (o : Options) (lines : Bool) where
 
 -- ---- the calls
 -- an accepted call has room for what it writes
-fits : (r : Cleaner) (c : Call) → accepts c ≡ true → length (encodeAll (passedBy r c .out)) ≤ length (lent c)
+pub fits : (r : Cleaner) (c : Call) → accepts c ≡ true → length (encodeAll (passedBy r c .out)) ≤ length (lent c)
 fits r (clean p o lines bs places) h =
     let n = length bs in
     let a = both-true (accepted p) (eqb n 0 || leb (3 * n + 13) (length places)) h .1 in

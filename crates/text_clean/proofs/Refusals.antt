@@ -7,14 +7,14 @@
 use Prim.Native.Nat.{ℕ, zero, suc, _+_, _*_, _≤_}
 use mathlib.Core.Bool.{Bool, true, false, cond, not, _&&_}
 use mathlib.Core.List.{List, [], _∷_}
-use mathlib.Core.Path.{_≡_, refl, sym, ap, subst, _∙_}
+use mathlib.Core.Path.{_≡_, refl, sym, ap, _∙_}
 use native.Mathlib.Omega.{arith}
 use lib.Dec.{eqb, ltb}
 use lib.ListN.{length}
-use borrow.Author.Tests.{lt-ltb, le-ltb, eqb-true, ltb-false}
+use borrow.Author.Tests.{lt-ltb, le-ltb, eqb-true}
 use Rattle.common.specs.Answers.{refusalIn}
 use Rattle.common.specs.Order.{_when_, firstOf}
-use Rattle.common.proofs.Kit.{never, split, by, by-lt}
+use Rattle.common.proofs.Kit.{never, split, by-lt}
 use Rattle.common.proofs.Lists.{drop-sets}
 use Rattle.unicode.specs.Utf8.{encodeAll}
 use Rattle.page.specs.Page.{accepted}
@@ -28,9 +28,9 @@ use Rattle.text_clean.specs.declared.Counts.{Counts}
 use Rattle.text_clean.specs.declared.CleanAnswer.the-variants.{Done}
 use Rattle.text_clean.specs.Text.{Passed, begun, takeOf, passedOf}
 use Rattle.text_clean.specs.Clean.{Outcome, refusalOf, placesForBytes, charsIn, cleanOf, lastOf, finishOf}
-use Rattle.text_clean.specs.Calls.{Answered, Totals, totalOf, totalsOf}
+use Rattle.text_clean.specs.Calls.{totalOf, totalsOf}
 use Rattle.text_clean.specs.Inner.{noTally}
-use Rattle.text_clean.specs.Refusals.{Unchanged, CleanLeaves, FinishLeaves}
+use Rattle.text_clean.specs.Refusals.{CleanLeaves, FinishLeaves}
 use Rattle.text_clean.proofs.Room.{by-take, bytes-room, last-room}
 
 -- ---- the places that n bytes need
