@@ -14,7 +14,7 @@ use text_clean::Cleaner;
 use text_clean::Counts;
 use text_input::Options;
 
-// How the flow stands: on; all done; failed, which was said; stopped by `--strict`, which was said.
+// How the flow stands: on; all done; failed, which was said; stopped by `--strict`, which was said; a write failed, which errno tells.
 pub const ON: u32 = 0;
 
 pub const ENDED: u32 = 1;
@@ -22,6 +22,8 @@ pub const ENDED: u32 = 1;
 pub const BROKEN: u32 = 2;
 
 pub const STOPPED: u32 = 3;
+
+pub const UNWRITTEN: u32 = 4;
 
 // The descriptors of the input and the output.
 pub struct Ways {
@@ -121,8 +123,7 @@ fn chars(w: Wish, out: &[u8], n: usize) -> usize {
 // Writes what a call wrote to out, and counts it.
 fn put(to: i32, w: Wish, out: &[u8], counts: Counts, bytes: usize, t: Total) -> Total {
     if !io::write_all(to, front::bytes(out, counts.written)) {
-        messages::failed_after(t.shown, b"write");
-        return t.ending(BROKEN);
+        return t.ending(UNWRITTEN);
     }
     let sums = t.sums.and(counts, bytes, chars(w, out, counts.written));
     let first = t.first;
@@ -139,8 +140,8 @@ fn put(to: i32, w: Wish, out: &[u8], counts: Counts, bytes: usize, t: Total) -> 
 }
 
 // The fault of which `--strict` says that it is there.
-fn stopped(name: &[u8], fault: Fault, t: Total) -> Total {
-    messages::fault(t.shown, name, fault);
+fn stopped(name: &[u8], w: Wish, fault: Fault, t: Total) -> Total {
+    messages::fault(t.shown, name, fault, w.lines);
     t.ending(STOPPED)
 }
 
@@ -205,7 +206,7 @@ fn cleaned(
     t: Total,
 ) -> Total {
     if w.strict & place::has_fault(counts, true) {
-        return stopped(name, place::first(begun, true, page, bytes, out), t);
+        return stopped(name, w, place::first(begun, true, page, bytes, out), t);
     }
     let written = put(to, w, out, counts, bytes.len(), t);
     placed(w, begun, page, counts, bytes, out, written)
@@ -259,14 +260,14 @@ fn ended(to: i32, name: &[u8], w: Wish, counts: Counts, out: &mut [u8], t: Total
     if 0 < counts.replaced {
         let fault = Fault::no_utf_8(t.spot, counts.replaced);
         if w.strict {
-            return stopped(name, fault, t);
+            return stopped(name, w, fault, t);
         }
         if t.first.kind == place::NONE {
             first = fault;
         }
     }
     if w.strict & (0 < counts.lost) {
-        return stopped(name, Fault::lost(t.spot), t);
+        return stopped(name, w, Fault::lost(t.spot), t);
     }
     let written = put(to, w, out, counts, 0, t);
     let mut end = ENDED;

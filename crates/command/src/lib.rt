@@ -79,7 +79,7 @@ fn status(end: u32) -> i32 {
 }
 
 // Cleans all of an open input to an open output.
-fn clean(ways: Ways, name: &[u8], page: &[u32], w: Wish) -> i32 {
+fn clean(ways: Ways, name: &[u8], out_name: &[u8], page: &[u32], w: Wish) -> i32 {
     let mut block = [0u8; BLOCK];
     let mut out = [0u8; ROOM];
     let clock = messages::begin(ways.from, w.progress);
@@ -89,17 +89,20 @@ fn clean(ways: Ways, name: &[u8], page: &[u32], w: Wish) -> i32 {
     }
     let t = flow::all(ways, name, page, w, clock, &mut block, &mut out);
     let end = t.end;
+    if end == flow::UNWRITTEN {
+        messages::failed_after(t.shown, out_name);
+    }
     if w.progress & (end == flow::ENDED) {
         messages::show(clock, t.sums.bytes_read);
         say(STDERR_FILENO, b"\n");
     }
-    if w.summary & (end != flow::STOPPED) {
+    if w.summary & (end == flow::ENDED) {
         let sums = t.sums;
         let first = t.first;
         messages::summary(sums, first);
     }
     if end != flow::STOPPED {
-        messages::warning(t.sums.lost, w.lines);
+        messages::warning(name, t.sums.lost, w.lines);
     }
     status(end)
 }
@@ -125,11 +128,11 @@ fn to_standard(from: i32, name: &[u8], page: &[u32], w: Wish) -> i32 {
         from,
         to: STDOUT_FILENO,
     };
-    let status = clean(ways, name, page, w);
+    let status = clean(ways, name, b"standard output", page, w);
     if status != DONE {
         return status;
     }
-    finish(STDOUT_FILENO, false, b"write")
+    finish(STDOUT_FILENO, false, b"standard output")
 }
 
 // Cleans to a new file, which is removed again where all is not written. A file that is there stays as it is: to replace it by a
@@ -143,7 +146,7 @@ fn to_file(from: i32, name: &[u8], page: &[u32], w: Wish) -> i32 {
         return FAILED;
     }
     let ways = Ways { from, to };
-    let mut status = clean(ways, name, page, w);
+    let mut status = clean(ways, name, &path[..k], page, w);
     if status == DONE {
         status = finish(to, true, &path[..k]);
     } else {
@@ -209,7 +212,7 @@ fn told(ok: bool) -> i32 {
     if ok {
         return DONE;
     }
-    failed(b"write");
+    failed(b"standard output");
     FAILED
 }
 

@@ -92,8 +92,17 @@ fn tell_bytes(count: usize, last: u32) {
     tell_byte(last);
 }
 
+// What is to be done about a line end inside an escape.
+fn tell_lines(lines: bool) {
+    if lines {
+        tell(b"Only 0A ends a line of --lines.\n");
+    } else {
+        tell(b"Use --lines for tables.\n");
+    }
+}
+
 // What `--strict` stops at.
-pub fn fault(shown: u64, name: &[u8], fault: Fault) {
+pub fn fault(shown: u64, name: &[u8], fault: Fault, lines: bool) {
     end_line(shown);
     tell(b"yeshorit: ");
     tell(name);
@@ -101,32 +110,34 @@ pub fn fault(shown: u64, name: &[u8], fault: Fault) {
     tell_number(fault.line);
     if fault.kind == place::LOST {
         tell(b": a line end stands inside an escape sequence\n");
+        tell_lines(lines);
         return;
     }
     tell(b", byte ");
     tell_number(fault.byte);
     tell(b": bytes that are no UTF-8 (");
     tell_bytes(fault.count, fault.last);
-    tell(b")\n");
+    tell(b")\nWithout --strict they become U+FFFD.\n");
 }
 
 // Line ends that stood inside escapes, if there are any.
-pub fn warning(lost: u64, lines: bool) {
+pub fn warning(name: &[u8], lost: u64, lines: bool) {
     if lost == 0 {
         return;
     }
     tell(b"yeshorit: warning: ");
     tell_number(lost);
     if lost == 1 {
-        tell(b" line end stood inside an escape sequence and is gone: a row may be lost.");
+        tell(b" line end stood inside an escape sequence in ");
+        tell(name);
+        tell(b" and is gone: a row may be lost.");
     } else {
-        tell(b" line ends stood inside escape sequences and are gone: rows may be lost.");
+        tell(b" line ends stood inside escape sequences in ");
+        tell(name);
+        tell(b" and are gone: rows may be lost.");
     }
-    if lines {
-        tell(b" A lone 0D ends no line of --lines.\n");
-    } else {
-        tell(b" Use --lines for tables.\n");
-    }
+    tell(b" ");
+    tell_lines(lines);
 }
 
 // A number of the summary, and what it counts.
