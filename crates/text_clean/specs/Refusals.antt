@@ -21,12 +21,12 @@ pub record Unchanged (r : Cleaner) (places : List ℕ) (left : Outcome) : Type 0
 pub record CleanLeaves (r : Cleaner) (bytes places : List ℕ) (left : Outcome) : Type 0 where
   -- a refused call changes nothing
   pub nothing : ltb 0 (refusalIn (left .numbers)) ≡ true → Unchanged r places left
-  -- "an empty chunk spends nothing", and writes nothing
+  -- an empty chunk spends nothing, not the chance to drop U+FEFF either, and writes nothing
   pub empty : bytes ≡ [] → Unchanged r places left × (writtenIn (left .numbers) ≡ 0)
   -- the room that n bytes need, and the number written is at most that of the places
   pub room : writtenIn (left .numbers) ≤ 3 * length bytes + 13
   pub fits : writtenIn (left .numbers) ≤ length places
-  -- "places past the written ones unchanged"
+  -- places past the written ones are unchanged
   pub past : drop (writtenIn (left .numbers)) (left .places) ≡ drop (writtenIn (left .numbers)) places
 
 -- of the record and the places at entry, and what the finish returned and left
@@ -42,5 +42,5 @@ pub record FinishLeaves (r : Cleaner) (places : List ℕ) (left : Outcome) : Typ
   -- the number written is at most eight, and at most that of the places
   pub eight : writtenIn (left .numbers) ≤ 8
   pub fits : writtenIn (left .numbers) ≤ length places
-  -- "places past the written ones unchanged"
+  -- places past the written ones are unchanged
   pub past : drop (writtenIn (left .numbers)) (left .places) ≡ drop (writtenIn (left .numbers)) places
