@@ -2,6 +2,7 @@
 -- definition and a function that are wrong alike break them.
 --     newline-bytes, start-bytes     which bytes count
 --     digit-bytes, other-bytes       which bytes are digits, and their values
+--     numbers-rows                   texts and their numbers, worked out by hand
 --     tally-append                   the counts of joined bytes add up
 --     since-append, since-all        bytes since the last 0A: those behind it; all, where there is none
 use Prim.Native.Nat.{ℕ, zero, suc, _+_, _-_}
@@ -11,8 +12,10 @@ use mathlib.Core.Path.{_≡_, refl, _∙_}
 use native.Mathlib.Omega.{arith}
 use lib.Dec.{eqb}
 use lib.ListN.{length}
-use Rattle.command_bytes.specs.Counts.{tally, isNewline, isStart, newlines, starts, sinceNewline}
+use Rattle.command_bytes.specs.Counts.{tally, isNewline, newlines, starts, sinceNewline}
 use Rattle.command_bytes.specs.Digits.{digitOf}
+use Rattle.command_bytes.specs.Words.{Read, readIn, readFrom, beginOf, numbersOf}
+use Rattle.command_bytes.specs.declared.numbers.Parsed.the-variants.{All, NoNumber, Many}
 
 -- n bytes from b on
 abbrev from : ℕ → ℕ → List ℕ
@@ -39,6 +42,42 @@ digit-bytes = (refl, refl, refl)
 pub other-bytes : tally (λ b. eqb (digitOf b) 16) (from 0 256) ≡ 256 - 22
 unfolding tally digitOf
 other-bytes = refl
+
+-- ---- texts and their numbers
+pub record Row : Type 0 where
+  pub bytes : List ℕ
+  pub places : List ℕ
+  pub expected : Read
+
+abbrev row : List ℕ → List ℕ → Read → Row
+row bytes places expected = record { bytes = bytes; places = places; expected = expected }
+
+unfoldable pub rows : List Row
+rows =
+    -- P 0 1 0 377 and 0A: four numbers, and the places behind them as they were
+    row (0x50 ∷ 0x20 ∷ 0x30 ∷ 0x20 ∷ 0x31 ∷ 0x20 ∷ 0x30 ∷ 0x20 ∷ 0x33 ∷ 0x37 ∷ 0x37 ∷ 0x0A ∷ []) (0xEE ∷ 0xEE ∷ 0xEE ∷ 0xEE ∷ 0xEE ∷ [])
+    (readIn (All 4) (0 ∷ 1 ∷ 0 ∷ 0x377 ∷ 0xEE ∷ []))
+    -- without P; small and capital digits; tab, 0D and 0A, one after the other, and at both ends
+    ∷ row (0x09 ∷ 0x31 ∷ 0x66 ∷ 0x09 ∷ 0x31 ∷ 0x46 ∷ 0x0D ∷ 0x0A ∷ 0x41 ∷ 0x20 ∷ []) (0xEE ∷ 0xEE ∷ 0xEE ∷ [])
+    (readIn (All 3) (0x1F ∷ 0x1F ∷ 0xA ∷ []))
+    -- no number at all
+    ∷ row [] (0xEE ∷ []) (readIn (All 0) (0xEE ∷ []))
+    ∷ row (0x50 ∷ 0x20 ∷ []) [] (readIn (All 0) [])
+    -- FFFFFFFF is a number, zeros before it or not; 100000000 is none
+    ∷ row (0x30 ∷ 0x46 ∷ 0x46 ∷ 0x46 ∷ 0x46 ∷ 0x46 ∷ 0x46 ∷ 0x46 ∷ 0x46 ∷ []) (0xEE ∷ []) (readIn (All 1) (0xFFFFFFFF ∷ []))
+    ∷ row (0x31 ∷ 0x30 ∷ 0x30 ∷ 0x30 ∷ 0x30 ∷ 0x30 ∷ 0x30 ∷ 0x30 ∷ 0x30 ∷ []) (0xEE ∷ []) (readIn NoNumber (0x10000000 ∷ []))
+    -- P alone, P before a digit, P behind a number, and a g
+    ∷ row (0x50 ∷ []) (0xEE ∷ []) (readIn NoNumber (0xEE ∷ []))
+    ∷ row (0x50 ∷ 0x31 ∷ []) (0xEE ∷ []) (readIn NoNumber (0xEE ∷ []))
+    ∷ row (0x31 ∷ 0x20 ∷ 0x50 ∷ 0x20 ∷ []) (0xEE ∷ []) (readIn NoNumber (1 ∷ []))
+    ∷ row (0x31 ∷ 0x67 ∷ []) (0xEE ∷ []) (readIn NoNumber (1 ∷ []))
+    -- two numbers, and one place
+    ∷ row (0x31 ∷ 0x20 ∷ 0x32 ∷ []) (0xEE ∷ []) (readIn Many (1 ∷ []))
+    ∷ []
+
+pub numbers-rows : map (λ (r : Row). numbersOf (r .bytes) (r .places)) rows ≡ map (λ (r : Row). r .expected) rows
+unfolding rows numbersOf readFrom beginOf digitOf
+numbers-rows = refl
 
 -- ---- joined bytes
 pub tally-append : (is : ℕ → Bool) (xs ys : List ℕ) → tally is (xs ++ ys) ≡ tally is xs + tally is ys

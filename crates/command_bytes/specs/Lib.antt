@@ -1,3 +1,4 @@
--- What a reader must believe of this crate: counts over bytes, and the digits of a page's numbers.
+-- What a reader must believe of this crate: counts over bytes, and a page's text as numbers (`Digits`, `Words`).
 pub mod Counts
 pub mod Digits
+pub mod Words

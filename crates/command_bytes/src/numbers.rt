@@ -3,6 +3,7 @@ ghost use Prim.Native.Nat.{_≤_};
 ghost use mathlib.Core.Path.{_≡_};
 ghost use lib.ListN.{length};
 ghost use Rattle.command_bytes.specs.Digits.{digitOf};
+ghost use Rattle.command_bytes.specs.Words.{isBlank, beginOf, readIn, numbersOf};
 
 // How many numbers a text has, or why it has not only numbers, or too many.
 pub enum Parsed {
@@ -11,7 +12,9 @@ pub enum Parsed {
     Many,
 }
 
-fn is_blank(b: u8) -> bool {
+fn is_blank(b: u8) -> bool
+    ensures { λ r. ⌜ r ≡ isBlank b ⌝ }
+{
     (b == b' ') | (b == b'\n') | (b == b'\t') | (b == b'\r')
 }
 
@@ -38,7 +41,8 @@ fn digit(b: u8) -> u32
 
 // Where the numbers begin: behind the word `P`.
 fn begin(text: &[u8]) -> usize
-    ensures { λ r. ⌜ r ≤ length (now (text .entry)) ⌝ }
+    ensures low { λ r. ⌜ r ≤ length (now (text .entry)) ⌝ }
+    ensures begin { λ r. ⌜ r ≡ beginOf (now (text .entry)) ⌝ }
 {
     if text.len() < 2 {
         return 0;
@@ -51,7 +55,9 @@ fn begin(text: &[u8]) -> usize
 }
 
 // Stores the numbers of a text. A word's number is stored anew with each of its digits.
-pub fn numbers(text: &[u8], out: &mut [u32]) -> Parsed {
+pub fn numbers(text: &[u8], out: &mut [u32]) -> Parsed
+    ensures { λ r. ⌜ readIn r (now (out .exit)) ≡ numbersOf (now (text .entry)) (now (out .entry)) ⌝ }
+{
     let mut n = 0;
     let mut at = 0;
     let mut value: u32 = 0;
