@@ -1,5 +1,5 @@
 -- DEMAND 3. A list of calls comes to scans of the accepted chunks and a finish (proofs/Listed.antt), these to the cleaned text of the
--- one reading (`whole`, `exists`, `unique` of text_input), and that is what the writers let through and close on (proofs/Holds.antt;
+-- one reading (`whole`, `one-reading` of text_input), and that is what the writers let through and close on (proofs/Holds.antt;
 -- `passes-plain`, `passes-color`, `passes-crlf` of text_output).
 --     demand3          the theorem
 --     passes-others    the queue passes the color and the CRLF writer too
@@ -16,7 +16,7 @@ use Rattle.isolate_unassigned.specs.Meaning.{isolated}
 use Rattle.text_input.specs.declared.Options.{Options}
 use Rattle.text_input.specs.Scan.{Outcome, fresh}
 use Rattle.text_input.specs.Pieces.{Piece, Reading, cleaned}
-use Rattle.text_input.proofs.Unique.{exists, unique}
+use Rattle.text_input.proofs.Unique.{exists, one-reading}
 use Rattle.text_input.proofs.Streams.{whole}
 use Rattle.text_output.specs.declared.Mode.the-variants.{Plain}
 use Rattle.text_output.specs.Passing.{PassesIn}
@@ -24,13 +24,9 @@ use Rattle.text_output.proofs.Writable.{writable, writable-of}
 use Rattle.text_output.proofs.Passing.{startsWell, endsWell, passes-plain}
 use Rattle.text_output.proofs.Modes.{passes-color, passes-crlf}
 use Rattle.one_reading.specs.Calls.{Call, Seen, queueOf, recordAfter, acceptedFrom, acceptedChunks, textOf, FinishedOnce}
-use Rattle.one_reading.specs.Demand.{ExactlyOne, NoneExcepted, Promise, Demand3, Others, PassesOthers}
+use Rattle.one_reading.specs.Demand.{NoneExcepted, Promise, Demand3, Others, PassesOthers}
 use Rattle.one_reading.proofs.Holds.{cleaned-starts, cleaned-ends, whole-clean, whole-chars}
 use Rattle.one_reading.proofs.Listed.{queue-listed, count-listed, chars-listed}
-
-one-reading : (options : Options) (text : List ℕ) → ExactlyOne (List Piece) (λ (xs : List Piece). Reading options text xs)
-one-reading options text =
-    let r = exists options text in record { one = r .0; is = r .1; only = λ xs h. unique options text xs (r .0) h (r .1) }
 
 module _ (page : List ℕ) (good : accepted page ≡ true) (options : Options) (calls : List Call)
     (once : FinishedOnce page options (acceptedFrom 0 calls)) (seen : List Outcome) (saw : Seen fresh calls seen) where

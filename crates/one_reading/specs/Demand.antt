@@ -5,6 +5,7 @@ use mathlib.Core.Bool.{true, not}
 use mathlib.Core.List.{List, flatten}
 use mathlib.Core.Path.{_≡_}
 use lib.ListN.{length}
+use Rattle.common.specs.Only.{ExactlyOne}
 use Rattle.page.specs.Page.{accepted}
 use Rattle.replace.specs.Table.{inSpans}
 use Rattle.check_char.specs.Check.{excepted, clean, all}
@@ -16,12 +17,6 @@ use Rattle.text_input.specs.Pieces.{Piece, Reading, cleaned}
 use Rattle.text_output.specs.declared.Mode.the-variants.{Plain, Crlf, Color}
 use Rattle.text_output.specs.Passing.{PassesIn, crlfOf}
 use Rattle.one_reading.specs.Calls.{Call, Seen, queueOf, recordAfter, acceptedFrom, acceptedChunks, textOf, FinishedOnce}
-
--- there is one, and no other
-pub record ExactlyOne (A : Type 0) (P : A → Type 0) : Type 0 where
-  pub one : A
-  pub is : P one
-  pub only : (other : A) → P other → other ≡ one
 
 -- a queue holds none of 2126, 212A, 212B and the ideographs: "The ideographs excepted are those that `check_basic_text_char` lists."
 abbrev pub NoneExcepted : List ℕ → Type 0

@@ -1,5 +1,6 @@
 -- A run of bytes in two parts: what the first gives, and then what the second gives from where the first led. So the loop of `run` goes
 -- by `stretch`'s way (proofs/Way.antt). Idea: the decoder's outputs append (`utf8_lossy`), and a run of characters goes one by one.
+--     joined-assoc     three runs, one after the other
 --     passed-append    what joined texts come to
 --     passes-append    what joined bytes come to; gives-append, leads-append: by its parts
 --     cleanWay         the way
@@ -37,8 +38,8 @@ pub course-is : {a b : List ℕ} {t u : Text} {m n : Tally} → a ≡ b → t �
 course-is h g f = λ i. record { pending = h i; text = g i; tally = f i }
 
 -- ---- characters
-joined-assoc : (a b c : Passed) → joined a (joined b c) ≡ joined (joined a b) c
-joined-assoc a b c = passed-is (sym (append-assoc (a .out) (b .out) (c .out))) refl (omega arith) (omega arith)
+pub joined-assoc : (a b c : Passed) → joined (joined a b) c ≡ joined a (joined b c)
+joined-assoc a b c = passed-is (append-assoc (a .out) (b .out) (c .out)) refl (omega arith) (omega arith)
 
 joined-nothing : (x : Passed) → joined x (record { out = []; next = x .next; dropped = 0; lost = 0 }) ≡ x
 joined-nothing x = passed-is (append-nil (x .out)) refl (omega arith) (omega arith)
@@ -50,7 +51,7 @@ module _ (p : List ℕ) (o : Options) (lines : Bool) where
   passed-append t (c ∷ cs) ds =
       let x : Passed = takeOf p o lines t c in
       ap (joined x) (passed-append (x .next) cs ds)
-      ∙ joined-assoc x (passedOf p o lines (x .next) cs) (passedOf p o lines (passedOf p o lines (x .next) cs .next) ds)
+      ∙ sym (joined-assoc x (passedOf p o lines (x .next) cs) (passedOf p o lines (passedOf p o lines (x .next) cs .next) ds))
 
   pub passed-one : (t : Text) (c : ℕ) → passedOf p o lines t (c ∷ []) ≡ takeOf p o lines t c
   passed-one t c = joined-nothing (takeOf p o lines t c)

@@ -35,8 +35,8 @@ use Rattle.text_clean.specs.declared.CleanAnswer.the-variants.{Done}
 use Rattle.text_clean.specs.declared.Moved.{Moved}
 use Rattle.text_clean.specs.declared.Ran.{Ran}
 use Rattle.text_clean.specs.Text.{Passed, passedOf, closedOf}
-use Rattle.text_clean.specs.Clean.{Outcome, outcome, placesForBytes, cleanOf, lastOf, finishOf}
-use Rattle.text_clean.specs.Inner.{noTally, Fits, replacedIn, countsOf, takenBy, isShort, Course, courseOf, gives, leads, Reached, ranIn, ranBy, Moves}
+use Rattle.text_clean.specs.Clean.{Outcome, outcome, placesForBytes, cleanOf, finishPassed, finishOf}
+use Rattle.text_clean.specs.Inner.{noTally, Fits, replacedMore, countsOf, takenBy, isShort, Course, courseOf, gives, leads, Reached, ranIn, ranBy, Moves}
 use Rattle.text_clean.proofs.Append.{tally-is, course-is, cleanWay}
 use Rattle.text_clean.proofs.Room.{bit-le, passed-dropped, passed-lost, counts-fit, bytes-room, last-room}
 use Rattle.text_clean.proofs.Turns.{reached-is, Asks, Takes}
@@ -163,18 +163,18 @@ module _ (r : Cleaner) (p : List ℕ) (o : Options) (eof : Bool) (places : List 
     finish-short [] = omega arith
     finish-short (a ∷ l) = omega arith
 
-    last-length : length (encodeAll (lastOf r p o eof .out)) ≡ length (encodeAll (x .out)) + length (encodeAll (y .out))
+    last-length : length (encodeAll (finishPassed r p o eof .out)) ≡ length (encodeAll (x .out)) + length (encodeAll (y .out))
     last-length = ap length (encode-append (x .out) (y .out)) ∙ length-append (encodeAll (x .out)) (encodeAll (y .out))
 
     -- what is counted before the first character
     module _ (t q : Tally) (n : ℕ) (none : t ≡ noTally) (size : n ≡ length rest) where
-      pub counted : Fits (replacedIn t n)
+      pub counted : Fits (replacedMore t n)
       counted =
           rw (none, size)
           record { read = omega arith; replaced = omega (arith, pending-short (r .pending)); dropped = omega arith; lost = omega arith }
 
-      module _ (tally : q ≡ replacedIn t n) (enough : 8 ≤ length places) (chars : Out) (out : charsOut chars ≡ cs) where
-        first : q ≡ replacedIn noTally (length rest)
+      module _ (tally : q ≡ replacedMore t n) (enough : 8 ≤ length places) (chars : Out) (out : charsOut chars ≡ cs) where
+        first : q ≡ replacedMore noTally (length rest)
         first = tally ∙ rw (none, size)
 
         pub take-asks : Asks p o false (r .text) 0 q places (charsOut chars)
@@ -192,7 +192,7 @@ module _ (r : Cleaner) (p : List ℕ) (o : Options) (eof : Bool) (places : List 
             }
 
         module _ (a : Taken) (mid : List ℕ) (took : Takes p o false (r .text) 0 q places (charsOut chars) a mid) where
-          given : Takes p o false (r .text) 0 (replacedIn noTally (length rest)) places cs a mid
+          given : Takes p o false (r .text) 0 (replacedMore noTally (length rest)) places cs a mid
           given = rw (first, out) at took
 
           pub close-asks : (a .at + length (encodeAll (closedOf (a .text) eof .out)) ≤ length mid)

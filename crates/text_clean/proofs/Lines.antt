@@ -32,8 +32,8 @@ use Rattle.text_input.proofs.Streams.{nothing}
 use Rattle.text_clean.specs.declared.text.Text.{Text}
 use Rattle.text_clean.specs.Text.{Passed, freshText, steppedOf, lineOf, takeOf, joined, passedOf}
 use Rattle.text_clean.specs.Promise.{CleanedTexts, none, more, intoFirst, linesOf}
-use Rattle.text_clean.proofs.Append.{passed-append, passed-one}
-use Rattle.text_clean.proofs.Reading.{charsOf, joined-assoc, endOf, wholeFrom, textOut, textPassed, whole-text, text-is, text-only}
+use Rattle.text_clean.proofs.Append.{joined-assoc, passed-append, passed-one}
+use Rattle.text_clean.proofs.Reading.{charsOf, endOf, wholeFrom, textOut, textPassed, whole-text, text-is, text-only}
 
 -- ---- no 0A
 abbrev pub noNewline : List ℕ → Bool

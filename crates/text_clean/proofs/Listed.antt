@@ -27,12 +27,12 @@ use Rattle.text_input.specs.declared.Options.{Options}
 use Rattle.text_clean.specs.declared.text.Text.{Text}
 use Rattle.text_clean.specs.declared.Cleaner.{Cleaner}
 use Rattle.text_clean.specs.Text.{Passed, joined, passedOf}
-use Rattle.text_clean.specs.Clean.{Outcome, outcome, refused, done, refusalOf, placesForBytes, charsIn, cleanOf, lastOf, finishOf}
+use Rattle.text_clean.specs.Clean.{Outcome, outcome, refused, done, refusalOf, placesForBytes, charsIn, cleanOf, finishPassed, finishOf}
 use Rattle.text_clean.specs.Calls.{Call, clean, finish, callOf, Answered, Seen, numbersOf, outputOf, readIn, replacedIn, droppedIn, lostIn, totalOf, accepts, acceptedOf, chunksOf, FinishedOnce}
 use Rattle.text_clean.specs.Inner.{noTally}
-use Rattle.text_clean.proofs.Append.{passed-append}
+use Rattle.text_clean.proofs.Append.{joined-assoc, passed-append}
 use Rattle.text_clean.proofs.Room.{bytes-room, last-room}
-use Rattle.text_clean.proofs.Reading.{joined-assoc, endOf, wholeFrom}
+use Rattle.text_clean.proofs.Reading.{endOf, wholeFrom}
 use Rattle.text_clean.proofs.Lines.{is-no}
 
 -- ---- one call, by whether it is accepted
@@ -47,7 +47,7 @@ lent (finish p o eof places) = places
 -- what an accepted one comes to, what is pending after it, and what it counts
 abbrev pub passedBy : Cleaner → Call → Passed
 passedBy r (clean p o lines bs places) = passedOf p o lines (r .text) (charsIn r bs)
-passedBy r (finish p o eof places) = lastOf r p o eof
+passedBy r (finish p o eof places) = finishPassed r p o eof
 
 abbrev pendingBy : Cleaner → Call → List ℕ
 pendingBy r (clean p o lines bs places) = restOf (pendingOf (r .pending)) bs
@@ -251,7 +251,7 @@ module _ (p : List ℕ) (o : Options) (lines : Bool) where
       Whole p o lines (pendingOf (r .pending)) (r .text) [] (s ∷ seen)
   finish-queued places r s seen b e w =
       let q : List ℕ = pendingOf (r .pending) in
-      let x : Passed = lastOf r p o true in
+      let x : Passed = finishPassed r p o true in
       same (s ∷ seen)
       (add s (length (decoder.finishOf q)) (length q) [] x places e (fits r (finish p o true places) b) seen w)
       (append-nil (x .out)) (omega arith) (omega arith) (omega arith) (omega arith)

@@ -21,7 +21,8 @@ use Rattle.text_clean.specs.declared.Cleaner.{Cleaner}
 use Rattle.text_clean.specs.Text.{freshText}
 use Rattle.text_clean.specs.Calls.{Call, Fresh, Answered, Seen, outputOf, totalsOf, acceptedOf, bytesOf, FinishedOnce}
 use Rattle.text_clean.specs.Promise.{CleanedTexts, CountedTexts, text, none, more, textsOf, Promise, Promised, CutFree}
-use Rattle.text_clean.proofs.Reading.{charsOf, wholeFrom, textOut, whole-out, text-is, one-decoding, one-reading}
+use Rattle.text_input.proofs.Unique.{one-reading}
+use Rattle.text_clean.proofs.Reading.{charsOf, wholeFrom, textOut, whole-out, text-is, one-decoding}
 use Rattle.text_clean.proofs.Lines.{lines-are, texts-only}
 use Rattle.text_clean.proofs.Listed.{Whole, moved, listed}
 use Rattle.text_clean.proofs.Counting.{texts-counted, counts-only}

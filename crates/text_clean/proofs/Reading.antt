@@ -10,16 +10,16 @@
 --     whole-text          bytes and a finish are the characters that the bytes are read as, and the text's end; whole-out: what they
 --                         append
 --     text-is             so they are the one cleaned text
---     one-decoding, one-reading    what is read is one
---     text-only           and so is the cleaned text
+--     one-decoding        bytes are read as one list of characters
+--     text-only           and the cleaned text is one
 use Prim.Native.Nat.{ℕ, _+_}
 use mathlib.Core.Bool.{Bool, true, false, cond}
-use mathlib.Core.List.{List, [], _∷_, _++_, append-assoc, append-nil, flatten}
+use mathlib.Core.List.{List, [], _∷_, _++_, append-nil, flatten}
 use mathlib.Core.Logic.{inl}
 use mathlib.Core.Path.{_≡_, refl, sym, ap, ap₂, _∙_}
-use native.Mathlib.Omega.{arith}
 use lib.Dec.{eqb}
 use lib.ListN.{length}
+use Rattle.common.specs.Only.{ExactlyOne}
 use Rattle.unicode.specs.Utf8.{encodeAll}
 use Rattle.page.specs.Page.{accepted}
 use Rattle.utf8_lossy.specs.Lossy.{Lossy}
@@ -38,8 +38,8 @@ use Rattle.text_input.proofs.Streams.{whole}
 use Rattle.text_input.proofs.Unique.{exists, unique}
 use Rattle.text_clean.specs.declared.text.Text.{Text}
 use Rattle.text_clean.specs.Text.{Passed, freshText, begun, markOf, steppedOf, takeOf, joined, passedOf, closedOf}
-use Rattle.text_clean.specs.Promise.{ExactlyOne, Decoding, CleanedText, text}
-use Rattle.text_clean.proofs.Append.{passed-is, passed-append}
+use Rattle.text_clean.specs.Promise.{Decoding, CleanedText, text}
+use Rattle.text_clean.proofs.Append.{joined-assoc, passed-append}
 
 -- the characters that bytes are read as
 abbrev pub charsOf : List ℕ → List ℕ
@@ -54,14 +54,6 @@ one-decoding l =
       is = r;
       only = λ d h. let e = only h r in λ i. record { chars = e .0 i; replaced = e .1 i };
     }
-
-pub one-reading : (options : Options) (t : List ℕ) → ExactlyOne (List Piece) (λ (xs : List Piece). Reading options t xs)
-one-reading options t =
-    let r = exists options t in record { one = r .0; is = r .1; only = λ xs h. unique options t xs (r .0) h (r .1) }
-
--- ---- one run, and two that follow
-pub joined-assoc : (a b c : Passed) → joined (joined a b) c ≡ joined a (joined b c)
-joined-assoc a b c = passed-is (append-assoc (a .out) (b .out) (c .out)) refl (omega arith) (omega arith)
 
 -- ---- the end, and bytes with it, where q is pending and the text is t
 abbrev pub endOf : List ℕ → Options → List ℕ → Text → Bool → Passed

@@ -27,7 +27,7 @@ use Rattle.text_clean.specs.declared.Cleaner.{Cleaner}
 use Rattle.text_clean.specs.declared.Counts.{Counts}
 use Rattle.text_clean.specs.declared.CleanAnswer.the-variants.{Done}
 use Rattle.text_clean.specs.Text.{Passed, begun, takeOf, passedOf}
-use Rattle.text_clean.specs.Clean.{Outcome, refusalOf, placesForBytes, charsIn, cleanOf, lastOf, finishOf}
+use Rattle.text_clean.specs.Clean.{Outcome, refusalOf, placesForBytes, charsIn, cleanOf, finishPassed, finishOf}
 use Rattle.text_clean.specs.Calls.{totalOf, totalsOf}
 use Rattle.text_clean.specs.Inner.{noTally}
 use Rattle.text_clean.specs.Refusals.{CleanLeaves, FinishLeaves}
@@ -117,7 +117,7 @@ module _ (r : Cleaner) (p : List ℕ) (o : Options) (eof : Bool) (places : List 
       ≡ firstOf (2 when not (accepted p) ∷ 8 when ltb (length places) 8 ∷ [])
   finish-order = told ∙ order-by (accepted p) (ltb (length places) 8)
 
-  last-fits : eqb none 0 ≡ true → length (encodeAll (lastOf r p o eof .out)) ≤ length places
+  last-fits : eqb none 0 ≡ true → length (encodeAll (finishPassed r p o eof .out)) ≤ length places
   last-fits e = omega (arith, last-room r p o eof, room-by (accepted p) 8 (length places) e)
 
   pub finish-leaves : FinishLeaves r places (finishOf r p o eof places)
@@ -125,7 +125,7 @@ module _ (r : Cleaner) (p : List ℕ) (o : Options) (eof : Bool) (places : List 
   finish-leaves =
       split (FinishLeaves r places) (eqb none 0)
       (λ e.
-      let out : List ℕ = encodeAll (lastOf r p o eof .out) in
+      let out : List ℕ = encodeAll (finishPassed r p o eof .out) in
       record {
         nothing = λ h. never h;
         none = λ h. refl;

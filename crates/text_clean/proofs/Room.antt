@@ -425,7 +425,7 @@ bytes-room p o lines r t (b ∷ bs) =
       pending-short (r .pending),
     )
 
-pub last-room : (r : Cleaner) (p : List ℕ) (o : Options) (eof : Bool) → length (encodeAll (call.lastOf r p o eof .out)) ≤ 8
+pub last-room : (r : Cleaner) (p : List ℕ) (o : Options) (eof : Bool) → length (encodeAll (call.finishPassed r p o eof .out)) ≤ 8
 last-room r p o eof =
     let q = pendingOf (r .pending) in
     let x : Passed = passedOf p o false (r .text) (decoder.finishOf q) in

@@ -39,8 +39,8 @@ use Rattle.text_clean.specs.Clean as call
 use Rattle.text_clean.specs.Calls.{Call, clean, finish, Answered, Seen, outputOf, totalOf, accepts, acceptedOf}
 use Rattle.text_clean.specs.Promise.{escaped, swallowed}
 use Rattle.text_clean.specs.Streams.{Finished, Part, inFront, partsOf, chunkOf, Decoded, none, more, escapedIn, swallowedIn, AllStreamed}
-use Rattle.text_clean.proofs.Append.{passed-append}
-use Rattle.text_clean.proofs.Reading.{charsOf, joined-assoc, endOf, spent-passed}
+use Rattle.text_clean.proofs.Append.{joined-assoc, passed-append}
+use Rattle.text_clean.proofs.Reading.{charsOf, endOf, spent-passed}
 use Rattle.text_clean.proofs.Listed.{refusalBy, lent, outcomeBy, call-is, Listed, same, add, pass, leftBy, fits}
 use Rattle.text_clean.proofs.Counting.{run-is, run-escaped, run-swallowed, calm-false}
 
@@ -155,7 +155,7 @@ module _ (p : List ℕ) (o : Options) where
   finish-queued eof places cs r s seen b e ih g h =
       let q : List ℕ = pendingOf (r .pending) in
       let ps : List Part = partsOf (acceptedOf cs) in
-      let x : Passed = call.lastOf r p o eof in
+      let x : Passed = call.finishPassed r p o eof in
       let w = moved ps seen (ap (λ (y : Outcome). y .pending) e) (ap (λ (y : Outcome). y .text) e) (ih (s .returned .next) g false h) in
       same (s ∷ seen)
       (add s (length (decoder.finishOf q)) (length q) [] x places e (fits r (finish p o eof places) b) seen w)

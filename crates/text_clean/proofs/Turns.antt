@@ -47,7 +47,7 @@ use Rattle.text_clean.specs.declared.Cleaner.{Cleaner}
 use Rattle.text_clean.specs.declared.Moved.{Moved}
 use Rattle.text_clean.specs.declared.Ran.{Ran}
 use Rattle.text_clean.specs.Text.{Passed, takeOf, joined, passedOf}
-use Rattle.text_clean.specs.Inner.{Fits, tallied, replacedIn, takenBy, readyFor, passedText, endedText, PlainRun, lineEndAt, LineAsks, lineMoved, lineStored, isNothing, Course, courseOf, passes, gives, leads, Reached, ranIn, ranBy, Moves}
+use Rattle.text_clean.specs.Inner.{Fits, tallied, replacedMore, takenBy, readyFor, passedText, endedText, PlainRun, lineEndAt, LineAsks, lineMoved, lineStored, isNothing, Course, courseOf, passes, gives, leads, Reached, ranIn, ranBy, Moves}
 use Rattle.text_clean.proofs.Append.{tally-is, course-is, passed-one, passes-one, gives-append, leads-append, fits-first}
 use Rattle.text_clean.proofs.plain.Runs.{part-join}
 use Rattle.text_clean.proofs.Ready.{plainly, ready-for, ready-ground, plain-passed, plain-chars, lineEnd, newline-passed, crlf-passed}
@@ -190,7 +190,7 @@ module _ (p : List ℕ) (o : Options) (lines : Bool) (s : Course) (b k : ℕ) (x
   byte-gives = ap (λ (z : Passed). encodeAll (z .out)) byte-passes
 
   byte-leads : leads p o lines s (b ∷ [])
-      ≡ record { pending = x .pending; text = y .next; tally = tallied (replacedIn (s .tally) (x .replaced)) (length (x .out)) (y .dropped) (y .lost) }
+      ≡ record { pending = x .pending; text = y .next; tally = tallied (replacedMore (s .tally) (x .replaced)) (length (x .out)) (y .dropped) (y .lost) }
   byte-leads =
       let q = byte-passes in
       let n = ap length (append-nil (stepOf (s .pending) b .out)) ∙ ap (λ (z : Turn). length (z .out)) (sym e) in
@@ -202,10 +202,10 @@ module _ (p : List ℕ) (o : Options) (lines : Bool) (s : Course) (b k : ℕ) (x
   byte-chars = rw e (rw append-nil at (are-chars (s .pending) (b ∷ [])))
 
   module _ (places : List ℕ) (room : k + length (gives p o lines s (b ∷ [])) ≤ length places) (fits : Fits (leads p o lines s (b ∷ []) .tally)) where
-    abbrev fitting : Fits (tallied (replacedIn (s .tally) (x .replaced)) (length (x .out)) (y .dropped) (y .lost))
+    abbrev fitting : Fits (tallied (replacedMore (s .tally) (x .replaced)) (length (x .out)) (y .dropped) (y .lost))
     fitting = subst (λ (z : Course). Fits (z .tally)) byte-leads fits
 
-    pub byte-counts : Fits (replacedIn (s .tally) (x .replaced))
+    pub byte-counts : Fits (replacedMore (s .tally) (x .replaced))
     byte-counts =
         let f = fitting in
         record {
@@ -215,11 +215,11 @@ module _ (p : List ℕ) (o : Options) (lines : Bool) (s : Course) (b k : ℕ) (x
           lost = omega (arith, f .lost);
         }
 
-    pub byte-asks : (q : Tally) → q ≡ replacedIn (s .tally) (x .replaced) → Asks p o lines (s .text) k q places (x .out)
+    pub byte-asks : (q : Tally) → q ≡ replacedMore (s .tally) (x .replaced) → Asks p o lines (s .text) k q places (x .out)
     byte-asks q h =
         rw h record { chars = byte-chars; room = omega (arith, room, ap length byte-gives); fits = fitting }
 
-  pub byte-ran : (q : Tally) → q ≡ replacedIn (s .tally) (x .replaced) → (places : List ℕ) (r : Taken) (after : List ℕ) →
+  pub byte-ran : (q : Tally) → q ≡ replacedMore (s .tally) (x .replaced) → (places : List ℕ) (r : Taken) (after : List ℕ) →
       Takes p o lines (s .text) k q places (x .out) r after →
       (_≡_ {A = Reached} (record { written = r .at; course = record { pending = x .pending; text = r .text; tally = r .tally } })
       (ranBy p o lines k s (b ∷ [])))

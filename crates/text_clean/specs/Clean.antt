@@ -77,12 +77,12 @@ cleanOf r p o lines bs places =
 
 -- ---- the text ends, or is pushed
 -- U+FFFD for the bytes of a character cut off; then the text's end
-abbrev pub lastOf : Cleaner → List ℕ → Options → Bool → Passed
-lastOf r p o eof =
+abbrev pub finishPassed : Cleaner → List ℕ → Options → Bool → Passed
+finishPassed r p o eof =
     let x : Passed = passedOf p o false (r .text) (decoder.finishOf (pendingOf (r .pending))) in joined x (closedOf (x .next) eof)
 
 unfoldable pub finishOf : Cleaner → List ℕ → Options → Bool → List ℕ → Outcome
 finishOf r p o eof places =
     cond (eqb (refusalOf p 8 (length places)) 0)
-    (done (length (decoder.finishOf (pendingOf (r .pending)))) (length (pendingOf (r .pending))) [] (lastOf r p o eof) places)
+    (done (length (decoder.finishOf (pendingOf (r .pending)))) (length (pendingOf (r .pending))) [] (finishPassed r p o eof) places)
     (refused r (refusalOf p 8 (length places)) places)

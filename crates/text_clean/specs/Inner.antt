@@ -39,8 +39,8 @@ tallied t read dropped lost =
     record { read = t .read + read; replaced = t .replaced; dropped = t .dropped + dropped; lost = t .lost + lost }
 
 -- with so many bytes more that U+FFFD stands for
-abbrev pub replacedIn : Tally → ℕ → Tally
-replacedIn t n = record { read = t .read; replaced = t .replaced + n; dropped = t .dropped; lost = t .lost }
+abbrev pub replacedMore : Tally → ℕ → Tally
+replacedMore t n = record { read = t .read; replaced = t .replaced + n; dropped = t .dropped; lost = t .lost }
 
 -- each count is a number of 64 bits
 pub record Fits (t : Tally) : Type 0 where
@@ -160,7 +160,7 @@ leads p o lines s bs =
       pending = restOf (s .pending) bs;
       text = passes p o lines s bs .next;
       tally =
-          replacedIn
+          replacedMore
           (tallied (s .tally) (length (outsOf (s .pending) bs)) (passes p o lines s bs .dropped) (passes p o lines s bs .lost))
           (replacedOf (s .pending) bs);
     }

@@ -7,6 +7,7 @@ use mathlib.Core.List.{List, [], _∷_, _++_}
 use mathlib.Core.Path.{_≡_}
 use lib.Dec.{eqb}
 use lib.ListN.{length}
+use Rattle.common.specs.Only.{ExactlyOne}
 use Rattle.unicode.specs.Chars.{areChars}
 use Rattle.unicode.specs.Utf8.{encodeAll}
 use Rattle.page.specs.Page.{accepted}
@@ -18,12 +19,6 @@ use Rattle.text_input.specs.Streams.{withoutBom}
 use Rattle.text_clean.specs.declared.Cleaner.{Cleaner}
 use Rattle.text_clean.specs.Text.{bit}
 use Rattle.text_clean.specs.Calls.{Call, Fresh, Answered, Seen, outputOf, Totals, totalsOf, acceptedOf, bytesOf, FinishedOnce}
-
--- there is one, and no other
-pub record ExactlyOne (A : Type 0) (P : A → Type 0) : Type 0 where
-  pub one : A
-  pub is : P one
-  pub only : (other : A) → P other → other ≡ one
 
 -- ---- one text
 -- what bytes are read as: characters, and how many of the bytes U+FFFD stands for in them

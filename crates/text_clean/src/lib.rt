@@ -39,7 +39,7 @@ ghost use Rattle.stretch.specs.Plain.{Gap};
 ghost use Rattle.utf8_lossy.specs.Decode.{pendingOf, charsOut};
 ghost use Rattle.text_clean.specs.Text.{freshText, passedOf};
 ghost use Rattle.text_clean.specs.Clean.{outcome, cleanOf, finishOf};
-ghost use Rattle.text_clean.specs.Inner.{noTally, Fits, tallied, takenBy, lineEndAt, LineAsks, lineMoved, lineStored, isNothing, replacedIn, countsOf, isShort, Course, courseOf, gives, leads, ranIn, ranBy, Moves};
+ghost use Rattle.text_clean.specs.Inner.{noTally, Fits, tallied, takenBy, lineEndAt, LineAsks, lineMoved, lineStored, isNothing, replacedMore, countsOf, isShort, Course, courseOf, gives, leads, ranIn, ranBy, Moves};
 
 // The cleaner's record: the bytes of a character that a chunk's end cut off, and the text so far.
 pub struct Cleaner {
@@ -115,8 +115,8 @@ fn tally_read(t: Tally, n: usize) -> Tally
 
 // Bytes that U+FFFD stands for. Inner: asks that the count fits.
 fn tally_replaced(t: Tally, n: usize) -> Tally
-    requires { ⌜ Fits (replacedIn t n) ⌝ }
-    ensures { λ r. ⌜ r ≡ replacedIn t n ⌝ }
+    requires { ⌜ Fits (replacedMore t n) ⌝ }
+    ensures { λ r. ⌜ r ≡ replacedMore t n ⌝ }
 {
     Tally {
         read: t.read,
@@ -275,8 +275,8 @@ impl Cleaner {
     }
 
     // A byte or more from place i on, and their output from place k on: a run of plain characters that is copied, with a line end behind
-    // it, a line end, one character, or one byte of one that is cut off or no UTF-8. Inner: asks for an accepted page, for a byte at i, for a gap, for
-    // room for all that is left, and that its counts fit.
+    // it, a line end, one character, or one byte of one that is cut off or no UTF-8. Inner: asks for an accepted page, for a byte at i,
+    // for a gap, for room for all that is left, and that its counts fit.
     fn advance(
         self,
         page: &[u32],

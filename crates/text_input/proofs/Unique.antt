@@ -3,6 +3,7 @@
 -- rest follows by the length.
 --     exists         a text has a reading
 --     unique         and no other
+--     one-reading    so it has exactly one
 --     class, kindC   what a first character begins
 --     Tail, tailOf   the rest of the first piece
 --     longest-of     with it the first piece is a longest one
@@ -16,6 +17,7 @@ use lib.Dec.{eqb}
 use lib.ListN.{length, length-append}
 use borrow.Author.Tests.{eqb-true}
 use native.Mathlib.Omega.{arith}
+use Rattle.common.specs.Only.{ExactlyOne}
 use Rattle.text_input.specs.declared.Options.{Options}
 use Rattle.text_input_parts.specs.PieceSets.{crOrLf}
 use Rattle.text_input.specs.Pieces.{Kind, lineEnd, pageRun, escape, other, optionChar, lineChar, LineEnd, PageRun, Escape, Other, Allowed}
@@ -199,3 +201,6 @@ unique-by o (x ∷ xs) (y ∷ ys) f g h =
 
 pub unique : (o : Options) (t : List ℕ) (xs ys : List Piece) → Reading o t xs → Reading o t ys → xs ≡ ys
 unique o t xs ys f g = unique-by o xs ys (f .longest) (g .longest) (f .joined ∙ sym (g .joined))
+
+pub one-reading : (o : Options) (t : List ℕ) → ExactlyOne (List Piece) (λ (xs : List Piece). Reading o t xs)
+one-reading o t = let r = exists o t in record { one = r .0; is = r .1; only = λ xs h. unique o t xs (r .0) h (r .1) }
