@@ -1,0 +1,311 @@
+-- The first of the listed faults is the first in reading order, and there is none exactly where all rules hold. A run is taken
+-- character by character: a fault is one of the first character, by four flags in the order of their kinds, or one of the rest.
+--     says         what the answer says, on every page and run
+--     kind-back    a kind read back from its number
+use Prim.Native.Nat.{ℕ, zero, suc, _+_, _≤_, _<_}
+use mathlib.Core.Bool.{Bool, true, false, not, cond, _&&_}
+use mathlib.Core.List.{List, [], _∷_, _++_}
+use mathlib.Core.Logic.{_⊎_, inl, inr, ⊎-elim}
+use mathlib.Core.Path.{_≡_, refl, sym, ap, _∙_}
+use native.Mathlib.Nat.{zero-add}
+use native.Mathlib.Omega.{arith}
+use lib.Dec.{eqb}
+use lib.ListN.{length, getD}
+use borrow.Author.Tests.{eq-eqb, ne-eqb, eqb-true, eqb-false, not-true}
+use Rattle.common.proofs.Kit.{by, by-lt, never, both, both-true}
+use Rattle.unicode.specs.Chars.{areChars}
+use Rattle.page.specs.Page.{accepted}
+use Rattle.text_utils.specs.Classes.{basicTextStart, basicTextEnd}
+use Rattle.check_char.specs.Check.{reasonOf}
+use Rattle.check_run.specs.declared.FaultKind.{FaultKind}
+use Rattle.check_run.specs.declared.FaultKind.the-variants.{Char, Start, End, Newline}
+use Rattle.check_run.specs.Rules.{Rules, allowed, Broken, kindNumber, Before, First}
+use Rattle.check_run.specs.Check.{Found, fault, found, none, faultsFrom, faults, yesNumbers, faultNumbers, firstNumbers, checkRunOf, Says}
+
+not-of : (b : Bool) → b ≡ false → not b ≡ true
+not-of b e = rw e
+
+-- ---- kinds and their numbers
+abbrev pub kindOf : ℕ → FaultKind
+kindOf n = cond (eqb n 1) Char (cond (eqb n 2) Start (cond (eqb n 3) End Newline))
+
+pub kind-back : (k : FaultKind) → kindOf (kindNumber k) ≡ k
+kind-back Char = refl
+kind-back Start = refl
+kind-back End = refl
+kind-back Newline = refl
+
+-- ---- four flags, one for each kind
+module _ (f : FaultKind → Bool) where
+  at-most : (k : FaultKind) → kindNumber k ≤ 4
+  at-most Char = omega arith
+  at-most Start = omega arith
+  at-most End = omega arith
+  at-most Newline = omega arith
+
+  -- those before a kind are false
+  below : (k : FaultKind) → (1 < kindNumber k → f Char ≡ false) → (2 < kindNumber k → f Start ≡ false) →
+      (3 < kindNumber k → f End ≡ false) → (m : FaultKind) → kindNumber m < kindNumber k → f m ≡ false
+  below k a b c Char l = a l
+  below k a b c Start l = b l
+  below k a b c End l = c l
+  below k a b c Newline l = absurd (omega (arith, l, at-most k))
+
+  none-of : f Char ≡ false → f Start ≡ false → f End ≡ false → f Newline ≡ false → (m : FaultKind) → f m ≡ false
+  none-of a b c d Char = a
+  none-of a b c d Start = b
+  none-of a b c d End = c
+  none-of a b c d Newline = d
+
+  -- what the list of the faults at place i begins with: the first kind whose flag is true, or what comes later
+  by-flags : (i : ℕ) (later : List Found) (P : List Found → Type 0) →
+      ((k : FaultKind) → f k ≡ true → ((m : FaultKind) → kindNumber m < kindNumber k → f m ≡ false) → (l : List Found) → P (fault i k ∷ l)) →
+      (((m : FaultKind) → f m ≡ false) → P later) →
+      P ((found (f Char) i Char ++ found (f Start) i Start ++ found (f End) i End ++ found (f Newline) i Newline) ++ later)
+  by-flags i later P here rest =
+      by (f Char)
+      (λ b. rw b (here Char b (below Char (λ l. absurd (omega arith)) (λ l. absurd (omega arith)) (λ l. absurd (omega arith))) _)) (λ a.
+      by (f Start)
+      (λ b. rw (a, b) (here Start b (below Start (λ l. a) (λ l. absurd (omega arith)) (λ l. absurd (omega arith))) _)) (λ s.
+      by (f End)
+      (λ b. rw (a, s, b) (here End b (below End (λ l. a) (λ l. s) (λ l. absurd (omega arith))) _)) (λ e.
+      by (f Newline)
+      (λ b. rw (a, s, e, b) (here Newline b (below Newline (λ l. a) (λ l. s) (λ l. e)) _)) (λ n.
+      rw (a, s, e, n) (rest (none-of a s e n))))))
+
+module _ (p : List ℕ) where
+  -- ---- the characters cs stand from place i on
+  -- a rule is broken at place i + j
+  abbrev BrokenFrom : ℕ → List ℕ → ℕ → FaultKind → Type 0
+  BrokenFrom i cs j Char = (j < length cs) × (allowed (getD cs j 0) ≡ false)
+  BrokenFrom i cs j Start = (i + j ≡ 0) × ((j < length cs) × (basicTextStart p (getD cs j 0) ≡ false))
+  BrokenFrom i cs j End = (j + 1 ≡ length cs) × (basicTextEnd (getD cs j 0) ≡ false)
+  BrokenFrom i cs j Newline = (j + 1 ≡ length cs) × (eqb (getD cs j 0) 0x0A ≡ false)
+
+  -- the same at the first of them, as a flag
+  abbrev brokenAt : ℕ → ℕ → List ℕ → FaultKind → Bool
+  brokenAt i c after Char = not (allowed c)
+  brokenAt i c after Start = eqb i 0 && not (basicTextStart p c)
+  brokenAt i c after End = none after && not (basicTextEnd c)
+  brokenAt i c after Newline = none after && not (eqb c 0x0A)
+
+  last-is : (c : ℕ) (cs : List ℕ) → none cs ≡ true → 0 + 1 ≡ length (c ∷ cs)
+  last-is c [] h = omega arith
+  last-is c (d ∷ cs) h = never h
+
+  is-last : (c : ℕ) (cs : List ℕ) → 0 + 1 ≡ length (c ∷ cs) → none cs ≡ true
+  is-last c [] h = refl
+  is-last c (d ∷ cs) h = absurd (omega arith)
+
+  module _ (i c : ℕ) (cs : List ℕ) where
+    here-of : (k : FaultKind) → brokenAt i c cs k ≡ true → BrokenFrom i (c ∷ cs) 0 k
+    here-of Char h = (omega arith, not-true _ h)
+    here-of Start h =
+        let x = both-true _ _ h in
+        let e : i ≡ 0 = eqb-true i 0 (x .0) in
+        (omega arith, (omega arith, not-true _ (x .1)))
+    here-of End h = let x = both-true _ _ h in (last-is c cs (x .0), not-true _ (x .1))
+    here-of Newline h = let x = both-true _ _ h in (last-is c cs (x .0), not-true _ (x .1))
+
+    here-to : (k : FaultKind) → BrokenFrom i (c ∷ cs) 0 k → brokenAt i c cs k ≡ true
+    here-to Char h = not-of _ (h .1)
+    here-to Start h = let e : i ≡ 0 = omega (arith, h .0) in both (eq-eqb i 0 e) (not-of _ (h .1 .1))
+    here-to End h = both (is-last c cs (h .0)) (not-of _ (h .1))
+    here-to Newline h = both (is-last c cs (h .0)) (not-of _ (h .1))
+
+    next-of : (j : ℕ) (k : FaultKind) → BrokenFrom (suc i) cs j k → BrokenFrom i (c ∷ cs) (suc j) k
+    next-of j Char h = (omega (arith, h .0), h .1)
+    next-of j Start h = absurd (omega (arith, h .0))
+    next-of j End h = (omega (arith, h .0), h .1)
+    next-of j Newline h = (omega (arith, h .0), h .1)
+
+    next-to : (j : ℕ) (k : FaultKind) → BrokenFrom i (c ∷ cs) (suc j) k → BrokenFrom (suc i) cs j k
+    next-to j Char h = (omega (arith, h .0), h .1)
+    next-to j Start h = absurd (omega (arith, h .0))
+    next-to j End h = (omega (arith, h .0), h .1)
+    next-to j Newline h = (omega (arith, h .0), h .1)
+
+  -- ---- what a list of faults tells of them: there is none, or the first of the list is one with none before it
+  record FirstFrom (i : ℕ) (cs : List ℕ) (place : ℕ) (k : FaultKind) : Type 0 where
+    at : ℕ
+    place-is : place ≡ i + at
+    is : BrokenFrom i cs at k
+    no-other : (j : ℕ) (m : FaultKind) → Before j m at k → BrokenFrom i cs j m → ⊥
+
+  abbrev Told : ℕ → List ℕ → List Found → Type 0
+  Told i cs [] = (j : ℕ) (k : FaultKind) → BrokenFrom i cs j k → ⊥
+  Told i cs (fault place k ∷ later) = FirstFrom i cs place k
+
+  module _ (i c : ℕ) (cs : List ℕ) where
+    -- a fault of the first character, with none of an earlier kind
+    first-here : (k : FaultKind) → brokenAt i c cs k ≡ true →
+        ((m : FaultKind) → kindNumber m < kindNumber k → brokenAt i c cs m ≡ false) → FirstFrom i (c ∷ cs) i k
+    first-here k h g =
+        record {
+          at = 0;
+          place-is = omega arith;
+          is = here-of i c cs k h;
+          no-other =
+              λ j m b x. ⊎-elim (λ l. omega (arith, l)) (λ l. never (sym (g m (l .1)) ∙ here-to i c cs m (rw (l .0) at x))) b;
+        }
+
+    -- no fault of it: the faults are those of the rest
+    module _ (g : (m : FaultKind) → brokenAt i c cs m ≡ false) where
+      none-later : ((j : ℕ) (k : FaultKind) → BrokenFrom (suc i) cs j k → ⊥) → (j : ℕ) (k : FaultKind) → BrokenFrom i (c ∷ cs) j k → ⊥
+      none-later t zero k x = never (sym (g k) ∙ here-to i c cs k x)
+      none-later t (suc j) k x = t j k (next-to i c cs j k x)
+
+      module _ (place : ℕ) (k : FaultKind) (t : FirstFrom (suc i) cs place k) where
+        no-earlier : (j : ℕ) (m : FaultKind) → Before j m (suc (t .at)) k → BrokenFrom i (c ∷ cs) j m → ⊥
+        no-earlier zero m b x = never (sym (g m) ∙ here-to i c cs m x)
+        no-earlier (suc j) m b x =
+            t .no-other j m (⊎-elim (λ l. inl (omega (arith, l))) (λ l. inr (omega (arith, l .0), l .1)) b) (next-to i c cs j m x)
+
+        first-later : FirstFrom i (c ∷ cs) place k
+        first-later =
+            record {
+              at = suc (t .at);
+              place-is = omega (arith, t .place-is);
+              is = next-of i c cs (t .at) k (t .is);
+              no-other = no-earlier;
+            }
+
+      later : (l : List Found) → Told (suc i) cs l → Told i (c ∷ cs) l
+      later [] t = none-later t
+      later (fault place k ∷ l) t = first-later place k t
+
+    told-more : Told (suc i) cs (faultsFrom p (suc i) cs) → Told i (c ∷ cs) (faultsFrom p i (c ∷ cs))
+    told-more t = by-flags (brokenAt i c cs) i (faultsFrom p (suc i) cs) (Told i (c ∷ cs)) (λ k b g l. first-here k b g) (λ g. later g (faultsFrom p (suc i) cs) t)
+
+  none-broken : (i j : ℕ) (k : FaultKind) → BrokenFrom i [] j k → ⊥
+  none-broken i j Char x = omega (arith, x .0)
+  none-broken i j Start x = omega (arith, x .1 .0)
+  none-broken i j End x = omega (arith, x .0)
+  none-broken i j Newline x = omega (arith, x .0)
+
+  told : (cs : List ℕ) (i : ℕ) → Told i cs (faultsFrom p i cs)
+  told [] i = none-broken i
+  told (c ∷ cs) i = told-more i c cs (told cs (suc i))
+
+  -- ---- the whole run
+  module _ (cs : List ℕ) where
+    of-run : (j : ℕ) (k : FaultKind) → BrokenFrom 0 cs j k → Broken p cs j k
+    of-run j Char x = x
+    of-run j Start x = (omega (arith, x .0), x .1)
+    of-run j End x = x
+    of-run j Newline x = x
+
+    to-run : (j : ℕ) (k : FaultKind) → Broken p cs j k → BrokenFrom 0 cs j k
+    to-run j Char x = x
+    to-run j Start x = (omega (arith, x .0), x .1)
+    to-run j End x = x
+    to-run j Newline x = x
+
+    -- no fault: all rules hold
+    module _ (t : (j : ℕ) (k : FaultKind) → Broken p cs j k → ⊥) where
+      is-allowed : (i : ℕ) → i < length cs → (reasonOf (getD cs i 0) ≡ 0) × (getD cs i 0 ≡ 0x1B → ⊥)
+      is-allowed i h =
+          by (allowed (getD cs i 0))
+          (λ e. let x = both-true _ _ e in (eqb-true _ _ (x .0), eqb-false _ _ (not-true _ (x .1))))
+          (λ e. absurd (t i Char (h, e)))
+
+      holds-by : (b : Bool) → (b ≡ false → ⊥) → b ≡ true
+      holds-by b n = by b (λ e. e) (λ e. absurd (n e))
+
+      rules-of : Rules p cs
+      rules-of =
+          record {
+            accepted = λ i h. is-allowed i h .0;
+            no-escape = λ i h. is-allowed i h .1;
+            first = λ h. holds-by _ (λ e. t 0 Start (refl, (h, e)));
+            last = λ i h. holds-by _ (λ e. t i End (h, e));
+            newline = λ i h. eqb-true _ _ (holds-by _ (λ e. t i Newline (h, e)));
+          }
+
+    -- all rules hold: no fault
+    rules-none : Rules p cs → (j : ℕ) (k : FaultKind) → Broken p cs j k → ⊥
+    rules-none r j Char x =
+        let a : allowed (getD cs j 0) ≡ true = both (eq-eqb _ _ (r .accepted j (x .0))) (not-of _ (ne-eqb _ _ (r .no-escape j (x .0)))) in
+        never (sym (x .1) ∙ a)
+    rules-none r j Start x = never (sym (rw (x .0) at (x .1 .1)) ∙ r .first (omega (arith, x .0, x .1 .0)))
+    rules-none r j End x = never (sym (x .1) ∙ r .last j (x .0))
+    rules-none r j Newline x = never (sym (x .1) ∙ eq-eqb _ _ (r .newline j (x .0)))
+
+    -- the first of a list that tells of the run is the first fault, and there is no other first
+    module _ (place : ℕ) (k : FaultKind) (t : FirstFrom 0 cs place k) where
+      place-at : t .at ≡ place
+      place-at = omega (arith, t .place-is)
+
+      first-of : First p cs place k
+      first-of =
+          rw (← place-at)
+          record { is = of-run (t .at) k (t .is); none = λ j m b x. t .no-other j m b (to-run j m x) }
+
+      only-first : (q : ℕ) (m : FaultKind) → First p cs q m → faultNumbers place k ≡ faultNumbers q m
+      only-first q m f =
+          let g = first-of in
+          by-lt place q (λ l. absurd (f .none place k (inl l) (g .is)))
+          (λ l.
+          by-lt q place (λ r. absurd (g .none q m (inl r) (f .is)))
+          (λ r.
+          let e : place ≡ q = omega arith in
+          by-lt (kindNumber k) (kindNumber m) (λ a. absurd (f .none place k (inr (e, a)) (g .is)))
+          (λ a.
+          by-lt (kindNumber m) (kindNumber k) (λ b. absurd (g .none q m (inr (sym e, b)) (f .is)))
+          (λ b.
+          let d : kindNumber k ≡ kindNumber m = omega arith in
+          rw (e, d)))))
+
+    says-by : (l : List Found) → Told 0 cs l → Says p cs (firstNumbers l)
+    says-by [] t =
+        record {
+          yes-rules = λ e. rules-of (λ j k x. t j k (to-run j k x));
+          rules-yes = λ a b r. refl;
+          fault-first = λ place kind e. absurd (unlike e);
+          first-fault = λ a b place kind f. absurd (t place kind (to-run place kind (f .is)));
+        }
+      where
+        unlike : {place kind : ℕ} → 0 ∷ 0 ∷ [] ≡ 0 ∷ 1 ∷ place ∷ kind ∷ [] → ⊥
+        unlike e = let z : _≡_ {A = ℕ} 0 1 = cc in omega arith
+    says-by (fault place k ∷ l) t =
+        record {
+          yes-rules = λ e. absurd (unlike e);
+          rules-yes = λ a b r. absurd (rules-none r (t .at) k (of-run (t .at) k (t .is)));
+          fault-first = same;
+          first-fault = λ a b. only-first place k t;
+        }
+      where
+        unlike : {place kind : ℕ} → 0 ∷ 1 ∷ place ∷ kind ∷ [] ≡ 0 ∷ 0 ∷ [] → ⊥
+        unlike e = let z : _≡_ {A = ℕ} 1 0 = cc in omega arith
+
+        same : (q : ℕ) (m : FaultKind) → faultNumbers place k ≡ faultNumbers q m → First p cs q m
+        same q m e =
+            let a : place ≡ q = cc in
+            let b : kindNumber k ≡ kindNumber m = cc in
+            let c : k ≡ m = sym (kind-back k) ∙ ap kindOf b ∙ kind-back m in
+            rw (← a, ← c) (first-of place k t)
+
+    -- a refusal is neither yes nor a fault
+    refused-says : (n : ℕ) → (accepted p ≡ true → areChars cs ≡ true → ⊥) → Says p cs (n ∷ [])
+    refused-says n h =
+        record {
+          yes-rules = λ e. absurd (not-yes e);
+          rules-yes = λ a b r. absurd (h a b);
+          fault-first = λ place kind e. absurd (not-fault e);
+          first-fault = λ a b place kind f. absurd (h a b);
+        }
+      where
+        not-yes : n ∷ [] ≡ 0 ∷ 0 ∷ [] → ⊥
+        not-yes e = omega (arith, ap length e)
+
+        not-fault : {place kind : ℕ} → n ∷ [] ≡ 0 ∷ 1 ∷ place ∷ kind ∷ [] → ⊥
+        not-fault e = omega (arith, ap length e)
+
+    pub says : Says p cs (checkRunOf p cs)
+    unfolding checkRunOf faults
+    says =
+        by (accepted p)
+        (λ a.
+        by (areChars cs) (λ b. rw (a, b) (says-by (faultsFrom p 0 cs) (told cs 0)))
+        (λ b. rw (a, b) (refused-says 1 (λ c d. never (sym b ∙ d)))))
+        (λ a. rw a (refused-says 2 (λ c d. never (sym a ∙ c))))

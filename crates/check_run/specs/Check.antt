@@ -1,0 +1,79 @@
+-- The entry: what the check of a run answers, by document 02's numbers. Nothing is lent to be written.
+use Prim.Native.Nat.{ℕ, suc}
+use mathlib.Core.Bool.{Bool, true, false, not, cond, _&&_}
+use mathlib.Core.List.{List, [], _∷_, _++_}
+use mathlib.Core.Path.{_≡_}
+use lib.Dec.{eqb}
+use Rattle.unicode.specs.Chars.{areChars}
+use Rattle.page.specs.Page.{accepted}
+use Rattle.text_utils.specs.Classes.{basicTextStart, basicTextEnd}
+use Rattle.check_run.specs.declared.FaultKind.{FaultKind}
+use Rattle.check_run.specs.declared.FaultKind.the-variants.{Char, Start, End, Newline}
+use Rattle.check_run.specs.declared.Verdict.{Verdict}
+use Rattle.check_run.specs.declared.Verdict.the-variants.{Yes, Fault, Refused}
+use Rattle.check_run.specs.Rules.{Rules, allowed, kindNumber, First}
+
+-- ---- the faults of a run, all of them, in reading order
+pub data Found : Type 0 where
+  fault : (place : ℕ) → FaultKind → Found
+
+-- one, where a rule is broken
+abbrev pub found : Bool → ℕ → FaultKind → List Found
+found broken place kind = cond broken (fault place kind ∷ []) []
+
+-- whether no character follows
+abbrev pub none : List ℕ → Bool
+none [] = true
+none (c ∷ cs) = false
+
+-- those of the character c at place i, where the characters `after` follow: "At one place a refused character or ESC (one kind) comes
+-- first, then a start, an end and a newline fault."
+abbrev pub faultsAt : List ℕ → ℕ → ℕ → List ℕ → List Found
+faultsAt p i c after =
+    found (not (allowed c)) i Char
+    ++ found (eqb i 0 && not (basicTextStart p c)) i Start
+    ++ found (none after && not (basicTextEnd c)) i End
+    ++ found (none after && not (eqb c 0x0A)) i Newline
+
+-- those of the characters from place i on
+abbrev pub faultsFrom : List ℕ → ℕ → List ℕ → List Found
+faultsFrom p i [] = []
+faultsFrom p i (c ∷ cs) = faultsAt p i c cs ++ faultsFrom p (suc i) cs
+
+-- those of the run: "the first fault in reading order" is the first of them
+unfoldable pub faults : List ℕ → List ℕ → List Found
+faults p cs = faultsFrom p 0 cs
+
+-- ---- the answer
+-- by numbers: 0 and how many faults are told, which is none, or one with its place and its kind's number; or the refusal's number.
+-- "The reply is yes, or the place (from 0) and kind of the first fault in reading order."
+abbrev pub yesNumbers : List ℕ
+yesNumbers = 0 ∷ 0 ∷ []
+
+abbrev pub faultNumbers : ℕ → FaultKind → List ℕ
+faultNumbers place kind = 0 ∷ 1 ∷ place ∷ kindNumber kind ∷ []
+
+abbrev pub verdictNumbers : Verdict → List ℕ
+verdictNumbers Yes = yesNumbers
+verdictNumbers (Fault place kind) = faultNumbers place kind
+verdictNumbers (Refused n) = n ∷ []
+
+-- yes where there is no fault, else the first
+abbrev pub firstNumbers : List Found → List ℕ
+firstNumbers [] = yesNumbers
+firstNumbers (fault place kind ∷ later) = faultNumbers place kind
+
+-- the check of a run by a page. "Answers: pages and values are tested as for a scan, 2 then 1."
+unfoldable pub checkRunOf : List ℕ → List ℕ → List ℕ
+checkRunOf p cs = cond (not (accepted p)) (2 ∷ []) (cond (not (areChars cs)) (1 ∷ []) (firstNumbers (faults p cs)))
+
+-- ---- what an answer says
+-- of a page and a run, whatever they are; that the page is accepted and all are characters is asked where nothing else would show it
+pub record Says (p cs answer : List ℕ) : Type 0 where
+  -- "Yes must hold exactly when all rules hold"
+  pub yes-rules : answer ≡ yesNumbers → Rules p cs
+  pub rules-yes : accepted p ≡ true → areChars cs ≡ true → Rules p cs → answer ≡ yesNumbers
+  -- "or the place (from 0) and kind of the first fault in reading order": a fault that is answered is one, and none comes before it
+  pub fault-first : (place : ℕ) (kind : FaultKind) → answer ≡ faultNumbers place kind → First p cs place kind
+  pub first-fault : accepted p ≡ true → areChars cs ≡ true →
+      (place : ℕ) (kind : FaultKind) → First p cs place kind → answer ≡ faultNumbers place kind
