@@ -3,6 +3,7 @@
 -- `passes-plain`, `passes-color`, `passes-crlf` of text_output).
 --     demand3          the theorem
 --     passes-others    the queue passes the color and the CRLF writer too
+--     queue-chars, queue-starts, queue-ends, queue-writable    what the queue is
 use Prim.Native.Nat.{ℕ}
 use native.Mathlib.Nat.{zero-add}
 use mathlib.Core.Bool.{true}
@@ -45,7 +46,7 @@ module _ (page : List ℕ) (good : accepted page ≡ true) (options : Options) (
   queue-clean =
       rw (queue-listed page options calls seen fresh saw once) (whole-clean page options fresh _ (chars-listed calls 0))
 
-  queue-chars : areChars queue ≡ true
+  pub queue-chars : areChars queue ≡ true
   queue-chars =
       rw (queue-listed page options calls seen fresh saw once) (whole-chars page options fresh _ (chars-listed calls 0))
 
@@ -56,14 +57,14 @@ module _ (page : List ℕ) (good : accepted page ≡ true) (options : Options) (
   queue-is : queue ≡ cleaned page pieces
   queue-is = image-is pieces (exists options (textOf calls) .1)
 
-  queue-starts : startsWell page queue ≡ true
+  pub queue-starts : startsWell page queue ≡ true
   queue-starts = rw queue-is (cleaned-starts page good pieces)
 
-  queue-ends : endsWell true queue ≡ true
+  pub queue-ends : endsWell true queue ≡ true
   queue-ends = rw queue-is (cleaned-ends page pieces)
 
   module _ (none : NoneExcepted queue) where
-    queue-writable : all writable queue ≡ true
+    pub queue-writable : all writable queue ≡ true
     queue-writable = writable-of queue queue-clean none
 
     passes-is : PassesIn Plain page queue (isolated page queue)

@@ -1,0 +1,80 @@
+-- The check of a run says yes to the queue of a finished stream. The queue holds what a writer lets through, begins with a start and ends
+-- with 0A, or is empty (proofs/Demand.antt); these are the check's rules, place by place.
+--     queue-gets-yes     the queue of a finished stream gets yes
+--     refused-as-scan    pages and values are refused as by a scan
+use Prim.Native.Nat.{ℕ, zero, suc, _+_, _*_, _≤_, _<_}
+use mathlib.Core.Bool.{Bool, true, false, not, _&&_, and-false}
+use mathlib.Core.List.{List, [], _∷_}
+use mathlib.Core.Path.{_≡_, refl, sym, _∙_}
+use native.Mathlib.Omega.{arith}
+use lib.Dec.{eqb, ltb}
+use lib.ListN.{length, getD}
+use borrow.Author.Tests.{eqb-true, eqb-false, not-true, le-ltb}
+use Rattle.common.specs.Order.{_when_, firstOf}
+use Rattle.common.proofs.Kit.{both-true}
+use Rattle.unicode.specs.Chars.{areChars}
+use Rattle.page.specs.Page.{accepted}
+use Rattle.text_utils.specs.Classes.{basicTextStart}
+use Rattle.text_utils.proofs.Classes.{end-newline}
+use Rattle.check_char.specs.Check.{reasonOf, all}
+use Rattle.check_run.specs.Rules.{Rules}
+use Rattle.check_run.specs.Check.{yesNumbers, checkRunOf}
+use Rattle.check_run.proofs.Laws.{says}
+use Rattle.check_run.proofs.Answers.{check-run-order}
+use Rattle.text_input.proofs.Refusals.{scan-order}
+use Rattle.text_output.proofs.Writable.{writable}
+use Rattle.text_output.proofs.Passing.{startsWell, endsWell}
+use Rattle.one_reading.specs.Calls.{queueOf}
+use Rattle.one_reading.specs.Checked.{QueueGetsYes, RefusedAsScan}
+use Rattle.one_reading.proofs.Demand.{queue-chars, queue-writable, queue-starts, queue-ends}
+
+-- ---- a list, place by place
+all-at : (f : ℕ → Bool) (w : List ℕ) → all f w ≡ true → (i : ℕ) → i < length w → f (getD w i 0) ≡ true
+all-at f [] h i l = absurd (omega arith)
+all-at f (x ∷ w) h zero l = both-true (f x) (all f w) h .0
+all-at f (x ∷ w) h (suc i) l = all-at f w (both-true (f x) (all f w) h .1) i (omega arith)
+
+starts-at : (p w : List ℕ) → startsWell p w ≡ true → 0 < length w → basicTextStart p (getD w 0 0) ≡ true
+starts-at p [] h l = absurd (omega arith)
+starts-at p (x ∷ w) h l = h
+
+ends-at : (w : List ℕ) (b : Bool) → endsWell b w ≡ true → (i : ℕ) → i + 1 ≡ length w → getD w i 0 ≡ 0x0A
+ends-at [] b h i l = absurd (omega arith)
+ends-at (x ∷ []) b h zero l = eqb-true x 0x0A h
+ends-at (x ∷ []) b h (suc i) l = absurd (omega arith)
+ends-at (x ∷ y ∷ w) b h zero l = absurd (omega arith)
+ends-at (x ∷ y ∷ w) b h (suc i) l = ends-at (y ∷ w) (eqb x 0x0A) h i (omega arith)
+
+-- ---- the rules
+goes-by : (c : ℕ) → writable c ≡ true → (reasonOf c ≡ 0) × (c ≡ 0x1B → ⊥)
+goes-by c h =
+    let x = both-true (eqb (reasonOf c) 0) (not (eqb c 0x1B)) h in
+    (eqb-true (reasonOf c) 0 (x .0), eqb-false c 0x1B (not-true _ (x .1)))
+
+module _ (p w : List ℕ) (goes : all writable w ≡ true) (starts : startsWell p w ≡ true) (ends : endsWell true w ≡ true) where
+  rules : Rules p w
+  rules =
+      record {
+        accepted = λ i l. goes-by _ (all-at writable w goes i l) .0;
+        no-escape = λ i l. goes-by _ (all-at writable w goes i l) .1;
+        first = starts-at p w starts;
+        last = λ i l. rw (ends-at w true ends i l) end-newline;
+        newline = ends-at w true ends;
+      }
+
+pub queue-gets-yes : QueueGetsYes
+queue-gets-yes page good options calls once seen saw none =
+    says page (queueOf seen) .rules-yes good (queue-chars page good options calls once seen saw)
+    (rules page (queueOf seen) (queue-writable page good options calls once seen saw none) (queue-starts page good options calls once seen saw) (queue-ends page good options calls once seen saw))
+
+-- ---- refusals
+-- by whether the page is right (a) and the values are characters (c), where the count (n) and the places (m) are enough
+same-first : (a c n m : Bool) → n ≡ false → m ≡ false →
+    firstOf (2 when not a ∷ 1 when not c ∷ []) ≡ firstOf (2 when not a ∷ 1 when not c ∷ 10 when n ∷ 8 when m ∷ [])
+same-first a c n m e f = rw (e, f)
+
+pub refused-as-scan : RefusedAsScan
+refused-as-scan page run r options places counted fits =
+    check-run-order page run
+    ∙ same-first (accepted page) (areChars run) (ltb 4294967295 (r .count + length run)) (ltb 0 (length run) && ltb (length places) (3 * length run + 1)) (le-ltb _ _ counted) (rw (le-ltb _ _ fits) (and-false (ltb 0 (length run))))
+    ∙ sym (scan-order r page options run places)

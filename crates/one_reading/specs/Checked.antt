@@ -1,0 +1,32 @@
+-- The check of a run (document 02, A.1) beside demand 3: what a finished stream leaves in its queue passes it, and pages and values are
+-- refused as by a scan.
+use Prim.Native.Nat.{ℕ, _+_, _*_, _≤_}
+use mathlib.Core.Bool.{true}
+use mathlib.Core.List.{List}
+use mathlib.Core.Path.{_≡_}
+use lib.ListN.{length}
+use Rattle.common.specs.Answers.{refusalIn}
+use Rattle.page.specs.Page.{accepted}
+use Rattle.check_run.specs.Check.{yesNumbers, checkRunOf}
+use Rattle.text_input.specs.declared.Options.{Options}
+use Rattle.text_input.specs.declared.TextInput.{TextInput}
+use Rattle.text_input.specs.Scan.{Outcome, fresh, scanOf}
+use Rattle.one_reading.specs.Calls.{Call, Seen, queueOf, acceptedFrom, FinishedOnce}
+use Rattle.one_reading.specs.Demand.{NoneExcepted}
+
+-- for the pages, options and lists of calls of `Demand3`: "every queue made as demand 3 says, without the characters it names, must get
+-- it with the page it was made with". An empty queue is one of them
+abbrev pub QueueGetsYes : Type 0
+QueueGetsYes =
+    (page : List ℕ) → accepted page ≡ true → (options : Options) →
+    (calls : List Call) → FinishedOnce page options (acceptedFrom 0 calls) →
+    (seen : List Outcome) → Seen fresh calls seen →
+    NoneExcepted (queueOf seen) → checkRunOf page (queueOf seen) ≡ yesNumbers
+
+-- "pages and values are tested as for a scan": the check of a run is refused by the number by which a scan of it is, by any record and
+-- options, where the scan's count and places are enough
+abbrev pub RefusedAsScan : Type 0
+RefusedAsScan =
+    (page run : List ℕ) → (r : TextInput) (options : Options) (places : List ℕ) →
+    r .count + length run ≤ 4294967295 → 3 * length run + 1 ≤ length places →
+    refusalIn (checkRunOf page run) ≡ refusalIn (scanOf r page options run places .numbers)
