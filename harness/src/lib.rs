@@ -12,6 +12,7 @@ include!(concat!(env!("OUT_DIR"), "/modules.rs"));
 mod pre_normalization;
 mod stand_in;
 
+pub mod check_run;
 pub mod leaves;
 pub mod page;
 pub mod properties;

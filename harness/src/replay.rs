@@ -3,6 +3,7 @@
 //! The original knows no places: here an answer holds exactly what is written, kept or handed out, and `clean` holds by
 //! the way it is made. The program has to earn it.
 
+use crate::check_run::check_run;
 use crate::leaves::{self, Reason};
 use crate::page::Page;
 use crate::properties;
@@ -50,6 +51,7 @@ impl Oracle {
             ["S", call @ ..] => self.scanner(call),
             ["F", length, pattern, queue @ ..] => filling(length, pattern, queue),
             ["W", call @ ..] => self.writer(call),
+            ["A", "check", run @ ..] => Ok(self.checked_run(&numbers(run)?)),
             _ => Err("word"),
         }
     }
@@ -143,6 +145,15 @@ impl Oracle {
             _ => return Err("word"),
         };
         Ok(format!("{answer} | {}", self.writer.record()))
+    }
+
+    /// `yes`, or the first fault: its place and its kind.
+    fn checked_run(&self, run: &[u32]) -> String {
+        match check_run(self.page, run) {
+            Ok(None) => "yes".to_owned(),
+            Ok(Some((place, kind))) => format!("fault {place:x} {kind}"),
+            Err(refusal) => format!("no {refusal}"),
+        }
     }
 
     /// "`W new` makes all places blank."

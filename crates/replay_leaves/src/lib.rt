@@ -1,9 +1,11 @@
-// The operations `L ..` of the program `replay`: entries on one character, on bytes and on a run of
+// The operations `L ..` and `A ..` of the program `replay`: entries on one character, on bytes and on a run of
 // characters.
 //     chars.rt    those on one character
 //     runs.rt     those on bytes and on a run
+//     checks.rt   the check of a run
 //     reason.rt   a refused character in an answer
 mod chars;
+mod checks;
 mod reason;
 mod runs;
 
@@ -27,11 +29,11 @@ fn on_char(number: usize, given: Single, page: &[u32], out: &mut [u8], at: usize
     }
 }
 
-// Answers a line whose first letter is L.
+// Answers a line whose first letter is L or A.
 pub fn operate(line: &[u8], page: &[u32], out: &mut [u8], at: usize) -> usize {
     let found = words::which(
         line,
-        b"L replace\nL check\nL start\nL end\nL utf8\nL isolate\n",
+        b"L replace\nL check\nL start\nL end\nL utf8\nL isolate\nA check\n",
     );
     let number = found.number;
     let place = found.place;
@@ -39,6 +41,7 @@ pub fn operate(line: &[u8], page: &[u32], out: &mut [u8], at: usize) -> usize {
         0..=3 => on_char(number, words::one_number(line, place), page, out, at),
         4 => runs::utf8(line, place, out, at),
         5 => runs::isolate(line, place, page, out, at),
+        6 => checks::check(line, place, page, out, at),
         _ => answer::refuse(out, at, Why::Word),
     }
 }

@@ -91,7 +91,11 @@ impl Met {
             self.faults += 1;
             return;
         }
-        let name = if answer == "page 0" { "P wrong" } else { name(operation) };
+        let name = match answer {
+            "page 0" => "P wrong",
+            "yes" => "A check yes",
+            _ => fault(answer).unwrap_or(name(operation)),
+        };
         match self.operations.get_mut(name) {
             Some(count) => *count += 1,
             None => drop(self.operations.insert(name.to_owned(), 1)),
@@ -171,6 +175,17 @@ fn compared(answer: &str) -> &str {
 fn name(operation: &str) -> &str {
     let words = if operation.starts_with(['P', 'F']) { 1 } else { 2 };
     operation.match_indices(' ').nth(words - 1).map_or(operation, |(end, _)| &operation[..end])
+}
+
+/// The operation that answers a fault, with the fault's kind.
+fn fault(answer: &str) -> Option<&'static str> {
+    match answer.strip_prefix("fault ")?.split(' ').nth(1)? {
+        "char" => Some("A check char"),
+        "start" => Some("A check start"),
+        "end" => Some("A check end"),
+        "newline" => Some("A check newline"),
+        _ => None,
+    }
 }
 
 /// The number of a refusal.

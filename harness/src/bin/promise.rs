@@ -1,6 +1,6 @@
 //! Holds answers to a script of the kind `demand` to demand 3: `promise SCRIPT ANSWERS`. Where the queue holds none of the
 //! excepted characters, the queue is the same for both cuts of the text, its one write hands out what isolation of the
-//! queue as one run gives, and the close succeeds. Prints how many queues passed, of these how many where every call that succeeds
+//! queue as one run gives, the close succeeds, and the check of the queue says yes. Prints how many queues passed, of these how many where every call that succeeds
 //! is lent exactly what it needs, and how many such of thousands of characters; or the first that does not pass. A missing answer is
 //! a failure, and so is a script that has none of one of these, or no queue with an excepted character.
 
@@ -46,6 +46,8 @@ struct Seen {
     /// The answers of the write and of the close.
     written: String,
     closed: String,
+    /// The answer of its check.
+    checked: String,
     /// Whether a call that succeeded was lent more than it needs.
     over: bool,
     /// The queues that pass, those of them where none was, and those of these that are long.
@@ -65,6 +67,7 @@ impl Seen {
             ["S", _] => self.queue.extend(listed(answer)),
             ["W", "chars"] => self.written = answer.to_owned(),
             ["W", "close"] => self.closed = answer.to_owned(),
+            ["A", "check"] => self.checked = answer.to_owned(),
             ["L", "isolate"] => {
                 let over = std::mem::take(&mut self.over);
                 return self.judge(answer, over);
@@ -88,6 +91,9 @@ impl Seen {
         }
         if !self.closed.starts_with("ok") {
             return Err("the close is refused");
+        }
+        if self.checked != "yes" {
+            return Err("the check of the queue does not say yes");
         }
         self.passed += 1;
         self.exact += usize::from(!over);

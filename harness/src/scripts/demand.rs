@@ -1,5 +1,5 @@
 //! Demand 3 from end to end: a text in chunks, with refused calls between them, finished as end of file; then its queue
-//! written whole to a plain writer, which is closed, and isolated as one run. Each text is cut in two ways. In most passages every
+//! written whole to a plain writer, which is closed, checked, and isolated as one run. Each text is cut in two ways. In most passages every
 //! call that is to succeed is lent exactly what it needs. The oracle runs along, so that the queue is known; the program
 //! `promise` holds the answers to the promise.
 
@@ -39,6 +39,7 @@ fn passage(random: &mut Random, oracle: &mut Oracle) -> Option<Vec<String>> {
     lines.extend(scanned(random, &page, options, &text, most_over));
     let (n, over) = (queue.len(), over(random, most_over));
     lines.extend(["W new plain".to_owned(), of_queue("W chars", 3 * n + over, &queue), "W close".to_owned()]);
+    lines.push(operation("A check", queue.iter().copied()));
     lines.push(of_queue("L isolate", if n == 0 { 0 } else { 2 * n + 1 } + over, &queue));
     Some(lines)
 }

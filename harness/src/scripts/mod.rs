@@ -2,6 +2,7 @@
 
 pub mod alphabet;
 pub mod cases;
+pub mod check;
 pub mod demand;
 pub mod every;
 pub mod fill;
@@ -20,9 +21,9 @@ use crate::page::real_numbers;
 use crate::random::Random;
 
 /// The kinds of script, each with what its answers must have, or nothing of that kind was compared: the operations and the
-/// refusals. `P wrong` is a page that is not accepted. `long` after an operation: on `LONG` characters at least it succeeds with
+/// refusals. `P wrong` is a page that is not accepted. `A check` has its answer behind it: `yes`, or the fault's kind. `long` after an operation: on `LONG` characters at least it succeeds with
 /// exactly the places that it needs. `long short`: with one place less it is refused by 8.
-pub const KINDS: [(&str, &str, &[u32]); 14] = [
+pub const KINDS: [(&str, &str, &[u32]); 15] = [
     ("pages", "P, P wrong", &[]),
     ("utf8", "L utf8", &[]),
     ("every", "P, L check, L end, L replace, L start", &[1, 4]),
@@ -30,6 +31,7 @@ pub const KINDS: [(&str, &str, &[u32]); 14] = [
     ("isolate", "P, P wrong, L isolate, L isolate long, L isolate long short", &[1, 2, 8]),
     ("scan", "P, P wrong, S count, S fin, S new, S scan, S scan long, S scan long short", &[1, 2, 8, 10]),
     ("fill", "F", &[1, 7]),
+    ("check", "P, P wrong, A check yes, A check char, A check start, A check end, A check newline", &[1, 2]),
     (
         "cases",
         "P, P wrong, L check, L end, L isolate, L start, S count, S fin, S new, S scan, F",
@@ -49,7 +51,7 @@ pub const KINDS: [(&str, &str, &[u32]); 14] = [
     (
         "demand",
         "P, P wrong, S fin, S new, S scan, S scan long, W chars, W chars long, W close, W new, L isolate, \
-         L isolate long",
+         L isolate long, A check yes, A check char",
         &[1, 2, 4, 8],
     ),
     (
@@ -95,6 +97,7 @@ fn drawn(kind: &str, seed: u64, count: usize) -> Option<Vec<String>> {
         "isolate" => isolate::script(random, count),
         "scan" => scan::script(random, count),
         "fill" => fill::script(random, count),
+        "check" => check::script(random, count),
         "write-cases" => write_cases::script(),
         "write" => write::script(random, count),
         "demand" => demand::script(random, count),

@@ -190,7 +190,7 @@ pub fn with<T: Copy>(text: &[T], at: usize, put_in: &[T]) -> Vec<T> {
 }
 
 /// Up to 100 plain characters, with something awkward at a place. A writer gets mostly such as it takes.
-fn around(random: &mut Random, awkward: &Awkward, for_writer: bool) -> Vec<u32> {
+pub fn around(random: &mut Random, awkward: &Awkward, for_writer: bool) -> Vec<u32> {
     let text = stretch(random.below(SCRIPTS.len()), random.below(1000), random.below(AROUND + 1));
     let accepted = for_writer && !random.once_in(3);
     with(&text, random.below(text.len() + 1), awkward.pick(random, accepted))
