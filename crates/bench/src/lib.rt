@@ -2,6 +2,9 @@
 // promise nothing more: what they call has its contract, and the benchmark compares the sums with the Rust's.
 use check_char::Checked;
 use check_char::check_basic_text_char;
+use check_run::FaultKind;
+use check_run::Verdict;
+use check_run::check_run;
 use common::Answer;
 use isolate_unassigned::isolate;
 use page::is_accepted;
@@ -122,6 +125,27 @@ pub extern "C" fn bench_isolate(page: &[u32], cs: &[u32], out: &mut [u32]) -> us
     match answer {
         Answer::Written(n) => n,
         Answer::Refused(_) => 0,
+    }
+}
+
+// A number for a fault's kind: 1 to 4.
+fn kind_number(kind: FaultKind) -> usize {
+    match kind {
+        FaultKind::Char => 1,
+        FaultKind::Start => 2,
+        FaultKind::End => 3,
+        FaultKind::Newline => 4,
+    }
+}
+
+// The place of a run's first fault with its kind added; 0 where it has none, and where it is refused.
+#[no_mangle]
+pub extern "C" fn bench_check_run(page: &[u32], cs: &[u32]) -> usize {
+    let verdict = check_run(page, cs);
+    match verdict {
+        Verdict::Yes => 0,
+        Verdict::Fault { place, kind } => std::num::wrapping_add_usize(place, kind_number(kind)),
+        Verdict::Refused(_) => 0,
     }
 }
 

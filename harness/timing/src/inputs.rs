@@ -42,6 +42,16 @@ pub fn writable(mut text: Vec<char>) -> Vec<char> {
     text
 }
 
+/// Such a text cut into runs of a size, each of which the check of a run says yes to: its first character is a letter, its last a newline.
+pub fn clean(text: Vec<char>, size: usize) -> Vec<char> {
+    let mut text = writable(text);
+    for run in text.chunks_mut(size) {
+        run[0] = 'a';
+        run[run.len() - 1] = '\n';
+    }
+    text
+}
+
 /// Words of a text in random order, with a line end now and then.
 fn words(text: &str, line_end: &str, count: usize) -> Vec<char> {
     let random = &mut Random::new(5);

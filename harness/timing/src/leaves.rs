@@ -114,6 +114,14 @@ pub const LEAVES: [Leaf; 7] = [
     DECODE,
 ];
 
+/// The check of a run.
+pub const CHECK_RUN: Leaf = Leaf {
+    name: "check_run",
+    ours: |lent, chunk| ours::check_run(&lent.page, &chunk.numbers),
+    rust: |_, chunk| rust::check_run(&chunk.chars),
+    same: nothing,
+};
+
 pub const ISOLATE: Leaf = Leaf {
     name: "isolate",
     ours: |lent, chunk| ours::isolate(&lent.page, &chunk.numbers, &mut lent.ours),

@@ -21,8 +21,8 @@ mod ours;
 mod rust;
 
 use clock::{least, Times};
-use inputs::{writable, INPUTS};
-use leaves::{Chunk, Leaf, Lent, EXPORTED_SCAN, ISOLATE, LEAVES, PAGE, SCAN, WRITES};
+use inputs::{clean, writable, INPUTS};
+use leaves::{Chunk, Leaf, Lent, CHECK_RUN, EXPORTED_SCAN, ISOLATE, LEAVES, PAGE, SCAN, WRITES};
 use std::process::ExitCode;
 
 /// So many characters are timed at once, as one chunk or as several.
@@ -64,7 +64,7 @@ fn every_character(lent: &mut Lent) -> usize {
     let mut count = 0;
     for c in '\0'..=char::MAX {
         let chunk = &mut Chunk::new(&[c]);
-        for leaf in LEAVES.iter().chain([&SCAN, &EXPORTED_SCAN]).chain(&WRITES) {
+        for leaf in LEAVES.iter().chain([&CHECK_RUN, &SCAN, &EXPORTED_SCAN]).chain(&WRITES) {
             leaf.agree(lent, chunk);
         }
         count += 1;
@@ -87,6 +87,10 @@ fn of_characters(lent: &mut Lent) {
             row(leaf.name, input.name.trim_end_matches(" CRLF"), per_character(leaf, lent, &text, CHUNK));
         }
     }
+    for input in &INPUTS {
+        let text = clean((input.text)(CHUNK * CHUNKS), CHUNK);
+        row(CHECK_RUN.name, input.name.trim_end_matches(" CRLF"), per_character(&CHECK_RUN, lent, &text, CHUNK));
+    }
     for size in SMALL {
         heading(&format!("ns per character, chunks of {size}"));
         for input in &INPUTS {
@@ -108,7 +112,7 @@ fn per_character(leaf: &Leaf, lent: &mut Lent, text: &[char], size: usize) -> Ti
 fn of_calls(lent: &mut Lent) {
     heading("ns per call");
     for (name, text) in [("empty chunk", &[][..]), ("one character", &['a'])] {
-        for leaf in [&SCAN, &EXPORTED_SCAN, &ISOLATE] {
+        for leaf in [&SCAN, &EXPORTED_SCAN, &ISOLATE, &CHECK_RUN] {
             row(leaf.name, name, per_call(leaf, lent, text));
         }
     }

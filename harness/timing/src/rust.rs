@@ -2,6 +2,7 @@
 
 use harness::leaves::valid_prefix;
 use harness::page::Page;
+use harness::unicode::ESC;
 use harness::{check_basic_text_char, is_basic_text_end, is_basic_text_start, PreNormalization};
 use std::collections::VecDeque;
 
@@ -24,6 +25,31 @@ pub fn replace(chars: &[char], queue: &mut VecDeque<char>) -> u32 {
 
 pub fn check(chars: &[char]) -> u32 {
     chars.iter().map(|c| u32::from(check_basic_text_char(*c).is_ok())).sum()
+}
+
+/// The place of the run's first fault with its kind's number added; 0 for none. The original has no such function: this is one over its
+/// check, start and end that stops at the first fault.
+pub fn check_run(chars: &[char]) -> usize {
+    let refused = |c: char| c == ESC || check_basic_text_char(c).is_err();
+    let (Some(first), Some(last)) = (chars.first(), chars.last()) else {
+        return 0;
+    };
+    if refused(*first) {
+        return 1;
+    }
+    if !is_basic_text_start(*first) {
+        return 2;
+    }
+    if let Some(place) = chars.iter().position(|c| refused(*c)) {
+        return place + 1;
+    }
+    if !is_basic_text_end(*last) {
+        return chars.len() + 2;
+    }
+    if *last != '\n' {
+        return chars.len() + 3;
+    }
+    0
 }
 
 pub fn isolate(chars: &[char], out: &mut [u32]) -> usize {
