@@ -144,7 +144,7 @@ pub extern "C" fn bench_check_run(page: &[u32], cs: &[u32]) -> usize {
     let verdict = check_run(page, cs);
     match verdict {
         Verdict::Yes => 0,
-        Verdict::Fault { place, kind } => std::num::wrapping_add_usize(place, kind_number(kind)),
+        Verdict::Fault(place, kind) => std::num::wrapping_add_usize(place, kind_number(kind)),
         Verdict::Refused(_) => 0,
     }
 }

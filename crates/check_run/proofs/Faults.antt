@@ -7,7 +7,7 @@
 --     later-char     all before a place are allowed, and the one there is not
 --     last-char      all are allowed: the faults of the last character
 use Prim.Native.Nat.{ℕ, zero, suc, _+_, _-_, _≤_, _<_}
-use mathlib.Core.Bool.{Bool, true, false, not, _&&_}
+use mathlib.Core.Bool.{Bool, true, false, not, cond, _&&_}
 use mathlib.Core.List.{List, [], _∷_, _++_, append-nil}
 use mathlib.Core.Path.{_≡_, refl, sym, ap, _∙_}
 use native.Mathlib.Nat.{zero-add, add-zero}
@@ -18,12 +18,14 @@ use borrow.Author.Tests.{ne-eqb}
 use Rattle.text_utils.specs.Classes.{basicTextStart, basicTextEnd}
 use Rattle.check_run.specs.declared.FaultKind.the-variants.{Char, Start, End, Newline}
 use Rattle.check_run.specs.Rules.{allowed}
-use Rattle.check_run.specs.Check.{Found, found, faultsFrom, faults, yesNumbers, faultNumbers, firstNumbers}
+use Rattle.check_run.specs.Check.{Found, fault, faultsFrom, faults, yesNumbers, faultNumbers, firstNumbers}
 use Rattle.check_run.specs.Inner.{AllowedUpTo}
 
--- the faults of a last character that is allowed
+-- the faults of a last character that is allowed, and no first one that is no start
 abbrev pub lastFaults : ℕ → ℕ → List Found
-lastFaults c place = found (not (basicTextEnd c)) place End ++ found (not (eqb c 0x0A)) place Newline
+lastFaults c place =
+    cond (not (basicTextEnd c)) (fault place End ∷ cond (not (eqb c 0x0A)) (fault place Newline ∷ []) [])
+    (cond (not (eqb c 0x0A)) (fault place Newline ∷ []) [])
 
 module _ (p : List ℕ) where
   -- the characters from place i on have no start fault

@@ -3,15 +3,15 @@
 --     says         what the answer says, on every page and run
 --     kind-back    a kind read back from its number
 use Prim.Native.Nat.{ℕ, zero, suc, _+_, _≤_, _<_}
-use mathlib.Core.Bool.{Bool, true, false, not, cond, _&&_}
+use mathlib.Core.Bool.{Bool, true, false, not, cond, _&&_, _||_}
 use mathlib.Core.List.{List, [], _∷_, _++_}
 use mathlib.Core.Logic.{_⊎_, inl, inr, ⊎-elim}
 use mathlib.Core.Path.{_≡_, refl, sym, ap, _∙_}
 use native.Mathlib.Nat.{zero-add}
 use native.Mathlib.Omega.{arith}
-use lib.Dec.{eqb}
+use lib.Dec.{eqb, ltb}
 use lib.ListN.{length, getD}
-use borrow.Author.Tests.{eq-eqb, ne-eqb, eqb-true, eqb-false, not-true}
+use borrow.Author.Tests.{eq-eqb, ne-eqb, eqb-true, eqb-false, ltb-true, not-true}
 use Rattle.common.proofs.Kit.{by, by-lt, never, both, both-true}
 use Rattle.unicode.specs.Chars.{areChars}
 use Rattle.page.specs.Page.{accepted}
@@ -20,14 +20,14 @@ use Rattle.check_char.specs.Check.{reasonOf}
 use Rattle.check_run.specs.declared.FaultKind.{FaultKind}
 use Rattle.check_run.specs.declared.FaultKind.the-variants.{Char, Start, End, Newline}
 use Rattle.check_run.specs.Rules.{Rules, allowed, Broken, kindNumber, Before, First}
-use Rattle.check_run.specs.Check.{Found, fault, found, none, faultsFrom, faults, yesNumbers, faultNumbers, firstNumbers, checkRunOf, Says}
+use Rattle.check_run.specs.Check.{Found, fault, none, brokenBy, kinds, faultsAt, faultsFrom, faults, yesNumbers, faultNumbers, firstNumbers, checkRunOf, Says}
 
 not-of : (b : Bool) → b ≡ false → not b ≡ true
 not-of b e = rw e
 
 -- ---- kinds and their numbers
 abbrev pub kindOf : ℕ → FaultKind
-kindOf n = cond (eqb n 1) Char (cond (eqb n 2) Start (cond (eqb n 3) End Newline))
+kindOf n = cond (eqb n (kindNumber Char)) Char (cond (eqb n (kindNumber Start)) Start (cond (eqb n (kindNumber End)) End Newline))
 
 pub kind-back : (k : FaultKind) → kindOf (kindNumber k) ≡ k
 kind-back Char = refl
@@ -35,59 +35,65 @@ kind-back Start = refl
 kind-back End = refl
 kind-back Newline = refl
 
--- ---- four flags, one for each kind
-module _ (f : FaultKind → Bool) where
-  at-most : (k : FaultKind) → kindNumber k ≤ 4
-  at-most Char = omega arith
-  at-most Start = omega arith
-  at-most End = omega arith
-  at-most Newline = omega arith
+same-kind : (k m : FaultKind) → kindNumber k ≡ kindNumber m → k ≡ m
+same-kind k m e = sym (kind-back k) ∙ ap kindOf e ∙ kind-back m
 
-  -- those before a kind are false
-  below : (k : FaultKind) → (1 < kindNumber k → f Char ≡ false) → (2 < kindNumber k → f Start ≡ false) →
-      (3 < kindNumber k → f End ≡ false) → (m : FaultKind) → kindNumber m < kindNumber k → f m ≡ false
-  below k a b c Char l = a l
-  below k a b c Start l = b l
-  below k a b c End l = c l
-  below k a b c Newline l = absurd (omega (arith, l, at-most k))
+-- every kind of a list has a number above n; the numbers of a list rise; a list has a kind
+abbrev above : ℕ → List FaultKind → Bool
+above n [] = true
+above n (k ∷ ks) = ltb n (kindNumber k) && above n ks
 
-  none-of : f Char ≡ false → f Start ≡ false → f End ≡ false → f Newline ≡ false → (m : FaultKind) → f m ≡ false
-  none-of a b c d Char = a
-  none-of a b c d Start = b
-  none-of a b c d End = c
-  none-of a b c d Newline = d
+abbrev rising : List FaultKind → Bool
+rising [] = true
+rising (k ∷ ks) = above (kindNumber k) ks && rising ks
 
-  -- what the list of the faults at place i begins with: the first kind whose flag is true, or what comes later
-  by-flags : (i : ℕ) (later : List Found) (P : List Found → Type 0) →
-      ((k : FaultKind) → f k ≡ true → ((m : FaultKind) → kindNumber m < kindNumber k → f m ≡ false) → (l : List Found) → P (fault i k ∷ l)) →
-      (((m : FaultKind) → f m ≡ false) → P later) →
-      P ((found (f Char) i Char ++ found (f Start) i Start ++ found (f End) i End ++ found (f Newline) i Newline) ++ later)
-  by-flags i later P here rest =
-      by (f Char)
-      (λ b. rw b (here Char b (below Char (λ l. absurd (omega arith)) (λ l. absurd (omega arith)) (λ l. absurd (omega arith))) _)) (λ a.
-      by (f Start)
-      (λ b. rw (a, b) (here Start b (below Start (λ l. a) (λ l. absurd (omega arith)) (λ l. absurd (omega arith))) _)) (λ s.
-      by (f End)
-      (λ b. rw (a, s, b) (here End b (below End (λ l. a) (λ l. s) (λ l. absurd (omega arith))) _)) (λ e.
-      by (f Newline)
-      (λ b. rw (a, s, e, b) (here Newline b (below Newline (λ l. a) (λ l. s) (λ l. e)) _)) (λ n.
-      rw (a, s, e, n) (rest (none-of a s e n))))))
+abbrev has : FaultKind → List FaultKind → Bool
+has m [] = false
+has m (k ∷ ks) = eqb (kindNumber m) (kindNumber k) || has m ks
+
+has-none : (ks : List FaultKind) (n : ℕ) (m : FaultKind) → above n ks ≡ true → kindNumber m ≤ n → has m ks ≡ false
+has-none [] n m a l = refl
+has-none (k ∷ ks) n m a l =
+    let x = both-true _ _ a in
+    let g = ltb-true n (kindNumber k) (x .0) in
+    rw (ne-eqb (kindNumber m) (kindNumber k) (λ e. omega arith)) (has-none ks n m (x .1) l)
+
+kinds-rise : rising kinds ≡ true
+kinds-rise = refl
+
+kinds-have : (m : FaultKind) → has m kinds ≡ true
+kinds-have Char = refl
+kinds-have Start = refl
+kinds-have End = refl
+kinds-have Newline = refl
+
+-- ---- the faults at a place, by a flag for each kind
+-- what is told of the first kind whose flag is true, where no earlier one's is, or else of what comes later, is told of the list
+module _ (f : FaultKind → Bool) (i : ℕ) (later : List Found) (P : List Found → Type 0)
+    (here : (k : FaultKind) → f k ≡ true → ((m : FaultKind) → kindNumber m < kindNumber k → f m ≡ false) → (l : List Found) → P (fault i k ∷ l))
+    (rest : ((m : FaultKind) → f m ≡ false) → P later) where
+  -- the flags of all kinds that the list has not are false
+  by-list : (ks : List FaultKind) → rising ks ≡ true → ((m : FaultKind) → has m ks ≡ false → f m ≡ false) → P (faultsAt f i ks ++ later)
+  by-list [] r others = rest (λ m. others m refl)
+  by-list (k ∷ ks) r others =
+      by (f k)
+      (λ b. rw b (here k b (λ m l. others m (rw (ne-eqb (kindNumber m) (kindNumber k) (λ e. omega arith)) (has-none ks (kindNumber k) m (x .0) (omega arith)))) (faultsAt f i ks ++ later)))
+      (λ b. rw b (by-list ks (x .1) (λ m h. by (eqb (kindNumber m) (kindNumber k)) (λ e. rw (same-kind m k (eqb-true _ _ e)) b) (λ e. others m (rw e h)))))
+    where
+      x : (above (kindNumber k) ks ≡ true) × (rising ks ≡ true)
+      x = both-true _ _ r
+
+  by-kinds : P (faultsAt f i kinds ++ later)
+  by-kinds = by-list kinds kinds-rise (λ m h. never (sym h ∙ kinds-have m))
 
 module _ (p : List ℕ) where
   -- ---- the characters cs stand from place i on
   -- a rule is broken at place i + j
   abbrev BrokenFrom : ℕ → List ℕ → ℕ → FaultKind → Type 0
-  BrokenFrom i cs j Char = (j < length cs) × (allowed (getD cs j 0) ≡ false)
+  BrokenFrom i cs j Char = Broken p cs j Char
   BrokenFrom i cs j Start = (i + j ≡ 0) × ((j < length cs) × (basicTextStart p (getD cs j 0) ≡ false))
-  BrokenFrom i cs j End = (j + 1 ≡ length cs) × (basicTextEnd (getD cs j 0) ≡ false)
-  BrokenFrom i cs j Newline = (j + 1 ≡ length cs) × (eqb (getD cs j 0) 0x0A ≡ false)
-
-  -- the same at the first of them, as a flag
-  abbrev brokenAt : ℕ → ℕ → List ℕ → FaultKind → Bool
-  brokenAt i c after Char = not (allowed c)
-  brokenAt i c after Start = eqb i 0 && not (basicTextStart p c)
-  brokenAt i c after End = none after && not (basicTextEnd c)
-  brokenAt i c after Newline = none after && not (eqb c 0x0A)
+  BrokenFrom i cs j End = Broken p cs j End
+  BrokenFrom i cs j Newline = Broken p cs j Newline
 
   last-is : (c : ℕ) (cs : List ℕ) → none cs ≡ true → 0 + 1 ≡ length (c ∷ cs)
   last-is c [] h = omega arith
@@ -98,7 +104,7 @@ module _ (p : List ℕ) where
   is-last c (d ∷ cs) h = absurd (omega arith)
 
   module _ (i c : ℕ) (cs : List ℕ) where
-    here-of : (k : FaultKind) → brokenAt i c cs k ≡ true → BrokenFrom i (c ∷ cs) 0 k
+    here-of : (k : FaultKind) → brokenBy p i c cs k ≡ true → BrokenFrom i (c ∷ cs) 0 k
     here-of Char h = (omega arith, not-true _ h)
     here-of Start h =
         let x = both-true _ _ h in
@@ -107,7 +113,7 @@ module _ (p : List ℕ) where
     here-of End h = let x = both-true _ _ h in (last-is c cs (x .0), not-true _ (x .1))
     here-of Newline h = let x = both-true _ _ h in (last-is c cs (x .0), not-true _ (x .1))
 
-    here-to : (k : FaultKind) → BrokenFrom i (c ∷ cs) 0 k → brokenAt i c cs k ≡ true
+    here-to : (k : FaultKind) → BrokenFrom i (c ∷ cs) 0 k → brokenBy p i c cs k ≡ true
     here-to Char h = not-of _ (h .1)
     here-to Start h = let e : i ≡ 0 = omega (arith, h .0) in both (eq-eqb i 0 e) (not-of _ (h .1 .1))
     here-to End h = both (is-last c cs (h .0)) (not-of _ (h .1))
@@ -138,8 +144,8 @@ module _ (p : List ℕ) where
 
   module _ (i c : ℕ) (cs : List ℕ) where
     -- a fault of the first character, with none of an earlier kind
-    first-here : (k : FaultKind) → brokenAt i c cs k ≡ true →
-        ((m : FaultKind) → kindNumber m < kindNumber k → brokenAt i c cs m ≡ false) → FirstFrom i (c ∷ cs) i k
+    first-here : (k : FaultKind) → brokenBy p i c cs k ≡ true →
+        ((m : FaultKind) → kindNumber m < kindNumber k → brokenBy p i c cs m ≡ false) → FirstFrom i (c ∷ cs) i k
     first-here k h g =
         record {
           at = 0;
@@ -150,7 +156,7 @@ module _ (p : List ℕ) where
         }
 
     -- no fault of it: the faults are those of the rest
-    module _ (g : (m : FaultKind) → brokenAt i c cs m ≡ false) where
+    module _ (g : (m : FaultKind) → brokenBy p i c cs m ≡ false) where
       none-later : ((j : ℕ) (k : FaultKind) → BrokenFrom (suc i) cs j k → ⊥) → (j : ℕ) (k : FaultKind) → BrokenFrom i (c ∷ cs) j k → ⊥
       none-later t zero k x = never (sym (g k) ∙ here-to i c cs k x)
       none-later t (suc j) k x = t j k (next-to i c cs j k x)
@@ -175,7 +181,8 @@ module _ (p : List ℕ) where
       later (fault place k ∷ l) t = first-later place k t
 
     told-more : Told (suc i) cs (faultsFrom p (suc i) cs) → Told i (c ∷ cs) (faultsFrom p i (c ∷ cs))
-    told-more t = by-flags (brokenAt i c cs) i (faultsFrom p (suc i) cs) (Told i (c ∷ cs)) (λ k b g l. first-here k b g) (λ g. later g (faultsFrom p (suc i) cs) t)
+    told-more t =
+        by-kinds (brokenBy p i c cs) i (faultsFrom p (suc i) cs) (Told i (c ∷ cs)) (λ k b g l. first-here k b g) (λ g. later g (faultsFrom p (suc i) cs) t)
 
   none-broken : (i j : ℕ) (k : FaultKind) → BrokenFrom i [] j k → ⊥
   none-broken i j Char x = omega (arith, x .0)
@@ -203,20 +210,17 @@ module _ (p : List ℕ) where
 
     -- no fault: all rules hold
     module _ (t : (j : ℕ) (k : FaultKind) → Broken p cs j k → ⊥) where
-      is-allowed : (i : ℕ) → i < length cs → (reasonOf (getD cs i 0) ≡ 0) × (getD cs i 0 ≡ 0x1B → ⊥)
-      is-allowed i h =
-          by (allowed (getD cs i 0))
-          (λ e. let x = both-true _ _ e in (eqb-true _ _ (x .0), eqb-false _ _ (not-true _ (x .1))))
-          (λ e. absurd (t i Char (h, e)))
-
       holds-by : (b : Bool) → (b ≡ false → ⊥) → b ≡ true
       holds-by b n = by b (λ e. e) (λ e. absurd (n e))
+
+      is-allowed : (i : ℕ) → i < length cs → allowed (getD cs i 0) ≡ true
+      is-allowed i h = holds-by _ (λ e. t i Char (h, e))
 
       rules-of : Rules p cs
       rules-of =
           record {
-            accepted = λ i h. is-allowed i h .0;
-            no-escape = λ i h. is-allowed i h .1;
+            accepted = λ i h. eqb-true _ _ (both-true (eqb (reasonOf (getD cs i 0)) 0) _ (is-allowed i h) .0);
+            no-escape = λ i h. eqb-false _ _ (not-true _ (both-true (eqb (reasonOf (getD cs i 0)) 0) _ (is-allowed i h) .1));
             first = λ h. holds-by _ (λ e. t 0 Start (refl, (h, e)));
             last = λ i h. holds-by _ (λ e. t i End (h, e));
             newline = λ i h. eqb-true _ _ (holds-by _ (λ e. t i Newline (h, e)));
@@ -282,7 +286,7 @@ module _ (p : List ℕ) where
         same q m e =
             let a : place ≡ q = cc in
             let b : kindNumber k ≡ kindNumber m = cc in
-            let c : k ≡ m = sym (kind-back k) ∙ ap kindOf b ∙ kind-back m in
+            let c : k ≡ m = same-kind k m b in
             rw (← a, ← c) (first-of place k t)
 
     -- a refusal is neither yes nor a fault

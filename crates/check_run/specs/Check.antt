@@ -17,28 +17,32 @@ use Rattle.check_run.specs.Rules.{Rules, allowed, kindNumber, First}
 pub data Found : Type 0 where
   fault : (place : ℕ) → FaultKind → Found
 
--- one, where a rule is broken
-abbrev pub found : Bool → ℕ → FaultKind → List Found
-found broken place kind = cond broken (fault place kind ∷ []) []
-
 -- whether no character follows
 abbrev pub none : List ℕ → Bool
 none [] = true
 none (c ∷ cs) = false
 
--- those of the character c at place i, where the characters `after` follow: "At one place a refused character or ESC (one kind) comes
--- first, then a start, an end and a newline fault."
-abbrev pub faultsAt : List ℕ → ℕ → ℕ → List ℕ → List Found
-faultsAt p i c after =
-    found (not (allowed c)) i Char
-    ++ found (eqb i 0 && not (basicTextStart p c)) i Start
-    ++ found (none after && not (basicTextEnd c)) i End
-    ++ found (none after && not (eqb c 0x0A)) i Newline
+-- whether the character c at place i, with the characters `after` behind it, breaks a rule: "all accepted and none ESC, first a start,
+-- last an end, and a newline last unless empty"
+abbrev pub brokenBy : List ℕ → ℕ → ℕ → List ℕ → FaultKind → Bool
+brokenBy p i c after Char = not (allowed c)
+brokenBy p i c after Start = eqb i 0 && not (basicTextStart p c)
+brokenBy p i c after End = none after && not (basicTextEnd c)
+brokenBy p i c after Newline = none after && not (eqb c 0x0A)
+
+-- "At one place a refused character or ESC (one kind) comes first, then a start, an end and a newline fault."
+abbrev pub kinds : List FaultKind
+kinds = Char ∷ Start ∷ End ∷ Newline ∷ []
+
+-- the faults at a place: of these kinds those that are broken, in order
+abbrev pub faultsAt : (FaultKind → Bool) → ℕ → List FaultKind → List Found
+faultsAt broken i [] = []
+faultsAt broken i (k ∷ ks) = cond (broken k) (fault i k ∷ faultsAt broken i ks) (faultsAt broken i ks)
 
 -- those of the characters from place i on
 abbrev pub faultsFrom : List ℕ → ℕ → List ℕ → List Found
 faultsFrom p i [] = []
-faultsFrom p i (c ∷ cs) = faultsAt p i c cs ++ faultsFrom p (suc i) cs
+faultsFrom p i (c ∷ cs) = faultsAt (brokenBy p i c cs) i kinds ++ faultsFrom p (suc i) cs
 
 -- those of the run: "the first fault in reading order" is the first of them
 unfoldable pub faults : List ℕ → List ℕ → List Found

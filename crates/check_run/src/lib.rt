@@ -38,7 +38,7 @@ pub enum FaultKind {
 // What the check says: every rule holds; the first fault, at its place counted from 0; or the number of the refusal.
 pub enum Verdict {
     Yes,
-    Fault { place: usize, kind: FaultKind },
+    Fault(usize, FaultKind),
     Refused(u32),
 }
 
@@ -74,8 +74,8 @@ fn allowed_end(run: &[u32]) -> usize
     i
 }
 
-// The first fault of a run: those of the first character come first, and those of the last one's class after any that is not allowed.
-// Inner: asks for an accepted page.
+// The first fault of a run. The faults of the first character come before all others, those of the last one's class after every
+// character that is not allowed. Inner: asks for an accepted page.
 fn first_fault(page: &[u32], run: &[u32]) -> Verdict
     requires { ⌜ accepted (now page) ≡ true ⌝ }
     ensures { λ r. ⌜ verdictNumbers r ≡ firstNumbers (faults (now (page .entry)) (now (run .entry))) ⌝ }
@@ -85,36 +85,21 @@ fn first_fault(page: &[u32], run: &[u32]) -> Verdict
         return Verdict::Yes;
     }
     if !is_allowed(run[0]) {
-        return Verdict::Fault {
-            place: 0,
-            kind: FaultKind::Char,
-        };
+        return Verdict::Fault(0, FaultKind::Char);
     }
     if !is_basic_text_start(page, run[0]) {
-        return Verdict::Fault {
-            place: 0,
-            kind: FaultKind::Start,
-        };
+        return Verdict::Fault(0, FaultKind::Start);
     }
     let at = allowed_end(run);
     if at < n {
-        return Verdict::Fault {
-            place: at,
-            kind: FaultKind::Char,
-        };
+        return Verdict::Fault(at, FaultKind::Char);
     }
     let last = run[n - 1];
     if !is_basic_text_end(last) {
-        return Verdict::Fault {
-            place: n - 1,
-            kind: FaultKind::End,
-        };
+        return Verdict::Fault(n - 1, FaultKind::End);
     }
     if last != 0xa {
-        return Verdict::Fault {
-            place: n - 1,
-            kind: FaultKind::Newline,
-        };
+        return Verdict::Fault(n - 1, FaultKind::Newline);
     }
     Verdict::Yes
 }

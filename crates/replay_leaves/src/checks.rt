@@ -21,7 +21,7 @@ fn kind(kind: FaultKind, out: &mut [u8], at: usize) -> usize {
 fn told(found: Verdict, out: &mut [u8], at: usize) -> usize {
     match found {
         Verdict::Yes => answer::text(out, at, b"yes\n"),
-        Verdict::Fault { place, kind: what } => {
+        Verdict::Fault(place, what) => {
             let end = answer::told(out, at, b"fault # ", &[place as u64]);
             kind(what, out, end)
         }
