@@ -56,6 +56,7 @@ NO_PROOF = {
     "Each public entry states": "asked of every contract: README.md, How to read the proofs",
     "For anything left": "nothing is left to the program: the contract of an entry is an equation",
     "Other cases and published": "run and compared: harness/compare",
+    "Forty brokers now": "it says what the check of a run is for",
 }
 
 # The files of specs/ whose definitions a theorem ties to another source, so that no wrong reading of the one passes by itself.

@@ -1,7 +1,7 @@
-// The check of a run of characters: whether it is clean, as brokers say that it is, and where it first is not. Document 02, A.1. The
-// rules are those of `is_basic_text` in internals/src/text_utils.rs without normalisation, and a newline last; the Rust answers whether
-// they hold, this the place and the kind of the first fault. The run is only read: plain characters are passed by stretches (crate
-// `stretch`), any other by the check of one character.
+// The check of a run of characters: whether it keeps the rules that every cleaned text keeps, and where it first does not. Document 02,
+// A.1. The rules are those of `is_basic_text` in internals/src/text_utils.rs without normalisation, and a newline last; the Rust answers
+// whether they hold, this the place and the kind of the first fault. The run is only read: plain characters are passed by stretches
+// (crate `stretch`), any other by the check of one character.
 use check_char::Checked;
 use check_char::check_basic_text_char;
 use common::NOT_A_CHAR;
@@ -104,7 +104,8 @@ fn first_fault(page: &[u32], run: &[u32]) -> Verdict
     Verdict::Yes
 }
 
-// Whether a run of characters is clean, and where it first is not. Total: refuses 2, then 1. Nothing is written.
+// Whether a run of characters keeps the rules, and the first fault where it does not: "We need a check over a lent run of characters".
+// Total: refuses 2, then 1. Nothing is written.
 pub fn check_run(page: &[u32], run: &[u32]) -> Verdict
     ensures { λ r. ⌜ verdictNumbers r ≡ checkRunOf (now (page .entry)) (now (run .entry)) ⌝ }
 {

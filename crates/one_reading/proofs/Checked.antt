@@ -1,17 +1,20 @@
--- The check of a run says yes to the queue of a finished stream. The queue holds what a writer lets through, begins with a start and ends
--- with 0A, or is empty (proofs/Demand.antt); these are the check's rules, place by place.
+-- The check of a run says yes to the queue of a finished stream, and a plain writer takes what gets yes. The queue holds what a writer
+-- lets through, begins with a start and ends with 0A, or is empty (proofs/Demand.antt); these are the check's rules, place by place, and
+-- what a plain writer asks for (`passes-plain` of text_output).
 --     queue-gets-yes     the queue of a finished stream gets yes
+--     yes-passes         a run that gets yes passes a plain writer
 --     refused-as-scan    pages and values are refused as by a scan
 use Prim.Native.Nat.{ℕ, zero, suc, _+_, _*_, _≤_, _<_}
 use mathlib.Core.Bool.{Bool, true, false, not, _&&_, and-false}
 use mathlib.Core.List.{List, [], _∷_}
-use mathlib.Core.Path.{_≡_, refl, sym, _∙_}
+use mathlib.Core.Path.{_≡_, refl, sym, ap, _∙_}
 use native.Mathlib.Omega.{arith}
 use lib.Dec.{eqb, ltb}
 use lib.ListN.{length, getD}
-use borrow.Author.Tests.{eqb-true, eqb-false, not-true, le-ltb}
+use borrow.Author.Tests.{eqb-true, eqb-false, eq-eqb, ne-eqb, not-true, le-ltb}
+use Rattle.common.specs.Answers.{refusalIn}
 use Rattle.common.specs.Order.{_when_, firstOf}
-use Rattle.common.proofs.Kit.{both-true}
+use Rattle.common.proofs.Kit.{both, both-true}
 use Rattle.unicode.specs.Chars.{areChars}
 use Rattle.page.specs.Page.{accepted}
 use Rattle.text_utils.specs.Classes.{basicTextStart}
@@ -23,9 +26,9 @@ use Rattle.check_run.proofs.Laws.{says}
 use Rattle.check_run.proofs.Answers.{check-run-order}
 use Rattle.text_input.proofs.Refusals.{scan-order}
 use Rattle.text_output.proofs.Writable.{writable}
-use Rattle.text_output.proofs.Passing.{startsWell, endsWell}
+use Rattle.text_output.proofs.Passing.{startsWell, endsWell, passes-plain}
 use Rattle.one_reading.specs.Calls.{queueOf}
-use Rattle.one_reading.specs.Checked.{QueueGetsYes, RefusedAsScan}
+use Rattle.one_reading.specs.Checked.{QueueGetsYes, YesPasses, RefusedAsScan}
 use Rattle.one_reading.proofs.Demand.{queue-chars, queue-writable, queue-starts, queue-ends}
 
 -- ---- a list, place by place
@@ -44,6 +47,20 @@ ends-at (x ∷ []) b h zero l = eqb-true x 0x0A h
 ends-at (x ∷ []) b h (suc i) l = absurd (omega arith)
 ends-at (x ∷ y ∷ w) b h zero l = absurd (omega arith)
 ends-at (x ∷ y ∷ w) b h (suc i) l = ends-at (y ∷ w) (eqb x 0x0A) h i (omega arith)
+
+-- the other way
+all-of : (f : ℕ → Bool) (w : List ℕ) → ((i : ℕ) → i < length w → f (getD w i 0) ≡ true) → all f w ≡ true
+all-of f [] h = refl
+all-of f (x ∷ w) h = both (h 0 (omega arith)) (all-of f w (λ i l. h (suc i) (omega arith)))
+
+starts-of : (p w : List ℕ) → (0 < length w → basicTextStart p (getD w 0 0) ≡ true) → startsWell p w ≡ true
+starts-of p [] h = refl
+starts-of p (x ∷ w) h = h (omega arith)
+
+ends-of : (w : List ℕ) → ((i : ℕ) → i + 1 ≡ length w → getD w i 0 ≡ 0x0A) → endsWell true w ≡ true
+ends-of [] h = refl
+ends-of (x ∷ []) h = eq-eqb x 0x0A (h 0 (omega arith))
+ends-of (x ∷ y ∷ w) h = ends-of (y ∷ w) (λ i l. h (suc i) (omega arith))
 
 -- ---- the rules
 goes-by : (c : ℕ) → writable c ≡ true → (reasonOf c ≡ 0) × (c ≡ 0x1B → ⊥)
@@ -66,6 +83,23 @@ pub queue-gets-yes : QueueGetsYes
 queue-gets-yes page good options calls once seen saw none =
     says page (queueOf seen) .rules-yes good (queue-chars page good options calls once seen saw)
     (rules page (queueOf seen) (queue-writable page good options calls once seen saw none) (queue-starts page good options calls once seen saw) (queue-ends page good options calls once seen saw))
+
+-- ---- what gets yes
+-- a page and a run that are not refused
+not-refused : (a c : Bool) → firstOf (2 when not a ∷ 1 when not c ∷ []) ≡ 0 → (a ≡ true) × (c ≡ true)
+not-refused true true h = (refl, refl)
+not-refused true false h = absurd (omega arith)
+not-refused false c h = absurd (omega arith)
+
+writes : (c : ℕ) → reasonOf c ≡ 0 → (c ≡ 0x1B → ⊥) → writable c ≡ true
+writes c a n = both (eq-eqb (reasonOf c) 0 a) (rw (ne-eqb c 0x1B n))
+
+pub yes-passes : YesPasses
+yes-passes page run e =
+    let ok = not-refused (accepted page) (areChars run) (sym (check-run-order page run) ∙ ap refusalIn e) in
+    let r = says page run .yes-rules e in
+    passes-plain page (ok .0) run (ok .1) (all-of writable run (λ i l. writes _ (r .accepted i l) (r .no-escape i l)))
+    (starts-of page run (r .first)) (ends-of run (r .newline))
 
 -- ---- refusals
 -- by whether the page is right (a) and the values are characters (c), where the count (n) and the places (m) are enough

@@ -1,5 +1,5 @@
--- The check of a run (document 02, A.1) beside demand 3: what a finished stream leaves in its queue passes it, and pages and values are
--- refused as by a scan.
+-- The check of a run (document 02, A.1) between scanner and writer: what a finished stream leaves in its queue gets yes, what gets yes
+-- passes a plain writer, and pages and values are refused as by a scan.
 use Prim.Native.Nat.{ℕ, _+_, _*_, _≤_}
 use mathlib.Core.Bool.{true}
 use mathlib.Core.List.{List}
@@ -7,14 +7,17 @@ use mathlib.Core.Path.{_≡_}
 use lib.ListN.{length}
 use Rattle.common.specs.Answers.{refusalIn}
 use Rattle.page.specs.Page.{accepted}
+use Rattle.isolate_unassigned.specs.Meaning.{isolated}
 use Rattle.check_run.specs.Check.{yesNumbers, checkRunOf}
 use Rattle.text_input.specs.declared.Options.{Options}
 use Rattle.text_input.specs.declared.TextInput.{TextInput}
 use Rattle.text_input.specs.Scan.{Outcome, fresh, scanOf}
+use Rattle.text_output.specs.declared.Mode.the-variants.{Plain}
+use Rattle.text_output.specs.Passing.{PassesIn}
 use Rattle.one_reading.specs.Calls.{Call, Seen, queueOf, acceptedFrom, FinishedOnce}
 use Rattle.one_reading.specs.Demand.{NoneExcepted}
 
--- for the pages, options and lists of calls of `Demand3`: "every queue made as demand 3 says, without the characters it names, must get
+-- for the pages, options and lists of calls of `Demand3`: "and every queue made as demand 3 says, without the characters it names, must get
 -- it with the page it was made with". An empty queue is one of them
 abbrev pub QueueGetsYes : Type 0
 QueueGetsYes =
@@ -22,6 +25,11 @@ QueueGetsYes =
     (calls : List Call) → FinishedOnce page options (acceptedFrom 0 calls) →
     (seen : List Outcome) → Seen fresh calls seen →
     NoneExcepted (queueOf seen) → checkRunOf page (queueOf seen) ≡ yesNumbers
+
+-- "Yes must hold exactly when all rules hold": so a run that gets it passes a fresh plain writer in one write, which then closes. Not the
+-- other way: a write isolates, and so takes runs that begin with no start
+abbrev pub YesPasses : Type 0
+YesPasses = (page run : List ℕ) → checkRunOf page run ≡ yesNumbers → PassesIn Plain page run (isolated page run)
 
 -- "pages and values are tested as for a scan": the check of a run is refused by the number by which a scan of it is, by any record and
 -- options, where the scan's count and places are enough
