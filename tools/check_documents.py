@@ -1,5 +1,5 @@
 #!/usr/bin/env python3
-"""Holds the tree to document 01, sentence by sentence, and to those requests of document 02 that docs/REQUESTS.md, where there is one, has (`## A.n`).
+"""Holds the tree to document 01, sentence by sentence, and to those requests of document 02 that docs/REQUESTS.md has (`## A.n`).
 
     tools/check_documents.py        says what is wrong, or counts what it read
     tools/check_documents.py map    prints each sentence with the items that quote it and the wrong programs that break it

@@ -138,14 +138,20 @@ fn kind_number(kind: FaultKind) -> usize {
     }
 }
 
-// The place of a run's first fault with its kind added; 0 where it has none, and where it is refused.
+// Four times the place of a run's first fault, with its kind's number added; 0 where it has none, and the greatest number where it is refused.
 #[no_mangle]
 pub extern "C" fn bench_check_run(page: &[u32], cs: &[u32]) -> usize {
     let verdict = check_run(page, cs);
     match verdict {
         Verdict::Yes => 0,
-        Verdict::Fault(place, kind) => std::num::wrapping_add_usize(place, kind_number(kind)),
-        Verdict::Refused(_) => 0,
+        Verdict::Fault(place, kind) => {
+            let twice = std::num::wrapping_add_usize(place, place);
+            std::num::wrapping_add_usize(
+                std::num::wrapping_add_usize(twice, twice),
+                kind_number(kind),
+            )
+        }
+        Verdict::Refused(_) => usize::MAX,
     }
 }
 

@@ -1,6 +1,7 @@
 -- Runs with the answers of the comparison's oracle, which computes every fault by the original's check, start and end and takes the
 -- least: the definition gives the same answer, by computing both. Characters are hexadecimal.
---     examples    the table
+--     kinds-numbered    the kinds by name, in document 02's order
+--     examples          the table
 use Prim.Native.Nat.{ℕ}
 use mathlib.Core.Path.{_≡_, refl}
 use mathlib.Core.List.{List, [], _∷_, map}
@@ -9,7 +10,13 @@ use Rattle.ranges.specs.Ranges.{member, rises}
 use Rattle.page.specs.Page.{sized, rising, nonstarter, assigned, accepted}
 use Rattle.text_utils.specs.Classes.{starter, graphemeExtendNotCgj, spacingMarkPlus, basicTextStart, basicTextEnd}
 use Rattle.check_char.specs.Check.{reasonOf}
+use Rattle.check_run.specs.declared.FaultKind.the-variants.{Char, Start, End, Newline}
+use Rattle.check_run.specs.Rules.{kindNumber}
 use Rattle.check_run.specs.Check.{faults, checkRunOf}
+
+-- "At one place a refused character or ESC (one kind) comes first, then a start, an end and a newline fault."
+pub kinds-numbered : map kindNumber (Char ∷ Start ∷ End ∷ Newline ∷ []) ≡ 1 ∷ 2 ∷ 3 ∷ 4 ∷ []
+kinds-numbered = refl
 
 -- what the oracle says: yes, a fault of a kind at a place, or the refusal's number
 pub data Told : Type 0 where

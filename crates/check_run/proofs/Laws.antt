@@ -20,7 +20,7 @@ use Rattle.check_char.specs.Check.{reasonOf}
 use Rattle.check_run.specs.declared.FaultKind.{FaultKind}
 use Rattle.check_run.specs.declared.FaultKind.the-variants.{Char, Start, End, Newline}
 use Rattle.check_run.specs.Rules.{Rules, allowed, Broken, kindNumber, Before, First}
-use Rattle.check_run.specs.Check.{Found, fault, none, brokenBy, kinds, faultsAt, faultsFrom, faults, yesNumbers, faultNumbers, firstNumbers, checkRunOf, Says}
+use Rattle.check_run.specs.Check.{Found, fault, isLast, brokenBy, kinds, faultsAt, faultsFrom, faults, yesNumbers, faultNumbers, firstNumbers, checkRunOf, Says}
 
 not-of : (b : Bool) → b ≡ false → not b ≡ true
 not-of b e = rw e
@@ -95,11 +95,11 @@ module _ (p : List ℕ) where
   BrokenFrom i cs j End = Broken p cs j End
   BrokenFrom i cs j Newline = Broken p cs j Newline
 
-  last-is : (c : ℕ) (cs : List ℕ) → none cs ≡ true → 0 + 1 ≡ length (c ∷ cs)
+  last-is : (c : ℕ) (cs : List ℕ) → isLast cs ≡ true → 0 + 1 ≡ length (c ∷ cs)
   last-is c [] h = omega arith
   last-is c (d ∷ cs) h = never h
 
-  is-last : (c : ℕ) (cs : List ℕ) → 0 + 1 ≡ length (c ∷ cs) → none cs ≡ true
+  is-last : (c : ℕ) (cs : List ℕ) → 0 + 1 ≡ length (c ∷ cs) → isLast cs ≡ true
   is-last c [] h = refl
   is-last c (d ∷ cs) h = absurd (omega arith)
 
@@ -138,9 +138,9 @@ module _ (p : List ℕ) where
     is : BrokenFrom i cs at k
     no-other : (j : ℕ) (m : FaultKind) → Before j m at k → BrokenFrom i cs j m → ⊥
 
-  abbrev Told : ℕ → List ℕ → List Found → Type 0
-  Told i cs [] = (j : ℕ) (k : FaultKind) → BrokenFrom i cs j k → ⊥
-  Told i cs (fault place k ∷ later) = FirstFrom i cs place k
+  abbrev Tells : ℕ → List ℕ → List Found → Type 0
+  Tells i cs [] = (j : ℕ) (k : FaultKind) → BrokenFrom i cs j k → ⊥
+  Tells i cs (fault place k ∷ later) = FirstFrom i cs place k
 
   module _ (i c : ℕ) (cs : List ℕ) where
     -- a fault of the first character, with none of an earlier kind
@@ -176,13 +176,13 @@ module _ (p : List ℕ) where
               no-other = no-earlier;
             }
 
-      later : (l : List Found) → Told (suc i) cs l → Told i (c ∷ cs) l
+      later : (l : List Found) → Tells (suc i) cs l → Tells i (c ∷ cs) l
       later [] t = none-later t
       later (fault place k ∷ l) t = first-later place k t
 
-    told-more : Told (suc i) cs (faultsFrom p (suc i) cs) → Told i (c ∷ cs) (faultsFrom p i (c ∷ cs))
-    told-more t =
-        by-kinds (brokenBy p i c cs) i (faultsFrom p (suc i) cs) (Told i (c ∷ cs)) (λ k b g l. first-here k b g) (λ g. later g (faultsFrom p (suc i) cs) t)
+    tells-more : Tells (suc i) cs (faultsFrom p (suc i) cs) → Tells i (c ∷ cs) (faultsFrom p i (c ∷ cs))
+    tells-more t =
+        by-kinds (brokenBy p i c cs) i (faultsFrom p (suc i) cs) (Tells i (c ∷ cs)) (λ k b g l. first-here k b g) (λ g. later g (faultsFrom p (suc i) cs) t)
 
   none-broken : (i j : ℕ) (k : FaultKind) → BrokenFrom i [] j k → ⊥
   none-broken i j Char x = omega (arith, x .0)
@@ -190,9 +190,9 @@ module _ (p : List ℕ) where
   none-broken i j End x = omega (arith, x .0)
   none-broken i j Newline x = omega (arith, x .0)
 
-  told : (cs : List ℕ) (i : ℕ) → Told i cs (faultsFrom p i cs)
-  told [] i = none-broken i
-  told (c ∷ cs) i = told-more i c cs (told cs (suc i))
+  tells : (cs : List ℕ) (i : ℕ) → Tells i cs (faultsFrom p i cs)
+  tells [] i = none-broken i
+  tells (c ∷ cs) i = tells-more i c cs (tells cs (suc i))
 
   -- ---- the whole run
   module _ (cs : List ℕ) where
@@ -219,21 +219,21 @@ module _ (p : List ℕ) where
       rules-of : Rules p cs
       rules-of =
           record {
-            accepted = λ i h. eqb-true _ _ (both-true (eqb (reasonOf (getD cs i 0)) 0) _ (is-allowed i h) .0);
-            no-escape = λ i h. eqb-false _ _ (not-true _ (both-true (eqb (reasonOf (getD cs i 0)) 0) _ (is-allowed i h) .1));
-            first = λ h. holds-by _ (λ e. t 0 Start (refl, (h, e)));
-            last = λ i h. holds-by _ (λ e. t i End (h, e));
-            newline = λ i h. eqb-true _ _ (holds-by _ (λ e. t i Newline (h, e)));
+            all-accepted = λ i h. eqb-true _ _ (both-true (eqb (reasonOf (getD cs i 0)) 0) _ (is-allowed i h) .0);
+            none-escape = λ i h. eqb-false _ _ (not-true _ (both-true (eqb (reasonOf (getD cs i 0)) 0) _ (is-allowed i h) .1));
+            first-start = λ h. holds-by _ (λ e. t 0 Start (refl, (h, e)));
+            last-end = λ i h. holds-by _ (λ e. t i End (h, e));
+            last-newline = λ i h. eqb-true _ _ (holds-by _ (λ e. t i Newline (h, e)));
           }
 
     -- all rules hold: no fault
     rules-none : Rules p cs → (j : ℕ) (k : FaultKind) → Broken p cs j k → ⊥
     rules-none r j Char x =
-        let a : allowed (getD cs j 0) ≡ true = both (eq-eqb _ _ (r .accepted j (x .0))) (not-of _ (ne-eqb _ _ (r .no-escape j (x .0)))) in
+        let a : allowed (getD cs j 0) ≡ true = both (eq-eqb _ _ (r .all-accepted j (x .0))) (not-of _ (ne-eqb _ _ (r .none-escape j (x .0)))) in
         never (sym (x .1) ∙ a)
-    rules-none r j Start x = never (sym (rw (x .0) at (x .1 .1)) ∙ r .first (omega (arith, x .0, x .1 .0)))
-    rules-none r j End x = never (sym (x .1) ∙ r .last j (x .0))
-    rules-none r j Newline x = never (sym (x .1) ∙ eq-eqb _ _ (r .newline j (x .0)))
+    rules-none r j Start x = never (sym (rw (x .0) at (x .1 .1)) ∙ r .first-start (omega (arith, x .0, x .1 .0)))
+    rules-none r j End x = never (sym (x .1) ∙ r .last-end j (x .0))
+    rules-none r j Newline x = never (sym (x .1) ∙ eq-eqb _ _ (r .last-newline j (x .0)))
 
     -- the first of a list that tells of the run is the first fault, and there is no other first
     module _ (place : ℕ) (k : FaultKind) (t : FirstFrom 0 cs place k) where
@@ -243,24 +243,24 @@ module _ (p : List ℕ) where
       first-of : First p cs place k
       first-of =
           rw (← place-at)
-          record { is = of-run (t .at) k (t .is); none = λ j m b x. t .no-other j m b (to-run j m x) }
+          record { is = of-run (t .at) k (t .is); no-earlier = λ j m b x. t .no-other j m b (to-run j m x) }
 
       only-first : (q : ℕ) (m : FaultKind) → First p cs q m → faultNumbers place k ≡ faultNumbers q m
       only-first q m f =
           let g = first-of in
-          by-lt place q (λ l. absurd (f .none place k (inl l) (g .is)))
+          by-lt place q (λ l. absurd (f .no-earlier place k (inl l) (g .is)))
           (λ l.
-          by-lt q place (λ r. absurd (g .none q m (inl r) (f .is)))
+          by-lt q place (λ r. absurd (g .no-earlier q m (inl r) (f .is)))
           (λ r.
           let e : place ≡ q = omega arith in
-          by-lt (kindNumber k) (kindNumber m) (λ a. absurd (f .none place k (inr (e, a)) (g .is)))
+          by-lt (kindNumber k) (kindNumber m) (λ a. absurd (f .no-earlier place k (inr (e, a)) (g .is)))
           (λ a.
-          by-lt (kindNumber m) (kindNumber k) (λ b. absurd (g .none q m (inr (sym e, b)) (f .is)))
+          by-lt (kindNumber m) (kindNumber k) (λ b. absurd (g .no-earlier q m (inr (sym e, b)) (f .is)))
           (λ b.
           let d : kindNumber k ≡ kindNumber m = omega arith in
           rw (e, d)))))
 
-    says-by : (l : List Found) → Told 0 cs l → Says p cs (firstNumbers l)
+    says-by : (l : List Found) → Tells 0 cs l → Says p cs (firstNumbers l)
     says-by [] t =
         record {
           yes-rules = λ e. rules-of (λ j k x. t j k (to-run j k x));
@@ -310,6 +310,6 @@ module _ (p : List ℕ) where
     says =
         by (accepted p)
         (λ a.
-        by (areChars cs) (λ b. rw (a, b) (says-by (faultsFrom p 0 cs) (told cs 0)))
+        by (areChars cs) (λ b. rw (a, b) (says-by (faultsFrom p 0 cs) (tells cs 0)))
         (λ b. rw (a, b) (refused-says 1 (λ c d. never (sym b ∙ d)))))
         (λ a. rw a (refused-says 2 (λ c d. never (sym a ∙ c))))

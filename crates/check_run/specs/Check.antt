@@ -17,18 +17,18 @@ use Rattle.check_run.specs.Rules.{Rules, allowed, kindNumber, First}
 pub data Found : Type 0 where
   fault : (place : ℕ) → FaultKind → Found
 
--- whether no character follows
-abbrev pub none : List ℕ → Bool
-none [] = true
-none (c ∷ cs) = false
+-- whether a character is the last, by those behind it
+abbrev pub isLast : List ℕ → Bool
+isLast [] = true
+isLast (c ∷ cs) = false
 
 -- whether the character c at place i, with the characters `after` behind it, breaks a rule: "all accepted and none ESC, first a start,
 -- last an end, and a newline last unless empty"
 abbrev pub brokenBy : List ℕ → ℕ → ℕ → List ℕ → FaultKind → Bool
 brokenBy p i c after Char = not (allowed c)
 brokenBy p i c after Start = eqb i 0 && not (basicTextStart p c)
-brokenBy p i c after End = none after && not (basicTextEnd c)
-brokenBy p i c after Newline = none after && not (eqb c 0x0A)
+brokenBy p i c after End = isLast after && not (basicTextEnd c)
+brokenBy p i c after Newline = isLast after && not (eqb c 0x0A)
 
 -- "At one place a refused character or ESC (one kind) comes first, then a start, an end and a newline fault."
 abbrev pub kinds : List FaultKind

@@ -15,14 +15,14 @@ use Rattle.check_run.specs.declared.FaultKind.the-variants.{Char, Start,
 -- of a page and a run; `getD cs i 0` is the character at place i
 pub record Rules (p cs : List ℕ) : Type 0 where
   -- "all accepted and none ESC"
-  pub accepted : (i : ℕ) → i < length cs → reasonOf (getD cs i 0) ≡ 0
-  pub no-escape : (i : ℕ) → i < length cs → getD cs i 0 ≡ 0x1B → ⊥
+  pub all-accepted : (i : ℕ) → i < length cs → reasonOf (getD cs i 0) ≡ 0
+  pub none-escape : (i : ℕ) → i < length cs → getD cs i 0 ≡ 0x1B → ⊥
   -- "first a start"
-  pub first : 0 < length cs → basicTextStart p (getD cs 0 0) ≡ true
+  pub first-start : 0 < length cs → basicTextStart p (getD cs 0 0) ≡ true
   -- "last an end"
-  pub last : (i : ℕ) → i + 1 ≡ length cs → basicTextEnd (getD cs i 0) ≡ true
+  pub last-end : (i : ℕ) → i + 1 ≡ length cs → basicTextEnd (getD cs i 0) ≡ true
   -- "and a newline last unless empty"
-  pub newline : (i : ℕ) → i + 1 ≡ length cs → getD cs i 0 ≡ 0x0A
+  pub last-newline : (i : ℕ) → i + 1 ≡ length cs → getD cs i 0 ≡ 0x0A
 
 -- ---- faults: a rule broken at a place
 -- "all accepted and none ESC", of one character
@@ -51,4 +51,4 @@ Before i k j m = (i < j) ⊎ ((i ≡ j) × (kindNumber k < kindNumber m))
 -- "the first fault in reading order": a fault with no earlier one
 pub record First (p cs : List ℕ) (i : ℕ) (k : FaultKind) : Type 0 where
   pub is : Broken p cs i k
-  pub none : (j : ℕ) (m : FaultKind) → Before j m i k → Broken p cs j m → ⊥
+  pub no-earlier : (j : ℕ) (m : FaultKind) → Before j m i k → Broken p cs j m → ⊥

@@ -1,7 +1,7 @@
-// The check of a run of characters: whether it keeps the rules that every cleaned text keeps, and where it first does not. Document 02,
-// A.1. The rules are those of `is_basic_text` in internals/src/text_utils.rs without normalisation, and a newline last; the Rust answers
-// whether they hold, this the place and the kind of the first fault. The run is only read: plain characters are passed by stretches
-// (crate `stretch`), any other by the check of one character.
+// The check of a run of characters: whether it keeps the rules of document 02, A.1, and where it first does not. A cleaned text keeps
+// them, unless it holds excepted characters. They are those of `is_basic_text` in internals/src/text_utils.rs without normalisation, and
+// a newline last; the Rust answers whether they hold, this the place and the kind of the first fault. The run is only read: plain
+// characters are passed by stretches (crate `stretch`), any other by the check of one character.
 use check_char::Checked;
 use check_char::check_basic_text_char;
 use common::NOT_A_CHAR;

@@ -1,7 +1,7 @@
--- The check of a run says yes to the queue of a finished stream, and a plain writer takes what gets yes. The queue holds what a writer
--- lets through, begins with a start and ends with 0A, or is empty (proofs/Demand.antt); these are the check's rules, place by place, and
--- what a plain writer asks for (`passes-plain` of text_output).
---     queue-gets-yes     the queue of a finished stream gets yes
+-- The check of a run says yes to the queue of a stream that is finished once, as end of file, and a plain writer takes what gets yes. The
+-- queue holds what a writer lets through, begins with a start and ends with 0A, or is empty (proofs/Demand.antt); these are the check's
+-- rules, place by place, and what a plain writer asks for (`passes-plain` of text_output).
+--     queue-gets-yes     the queue of such a stream gets yes
 --     yes-passes         a run that gets yes passes a plain writer
 --     refused-as-scan    pages and values are refused as by a scan
 use Prim.Native.Nat.{ℕ, zero, suc, _+_, _*_, _≤_, _<_}
@@ -72,11 +72,11 @@ module _ (p w : List ℕ) (goes : all writable w ≡ true) (starts : startsWell 
   rules : Rules p w
   rules =
       record {
-        accepted = λ i l. goes-by _ (all-at writable w goes i l) .0;
-        no-escape = λ i l. goes-by _ (all-at writable w goes i l) .1;
-        first = starts-at p w starts;
-        last = λ i l. rw (ends-at w true ends i l) end-newline;
-        newline = ends-at w true ends;
+        all-accepted = λ i l. goes-by _ (all-at writable w goes i l) .0;
+        none-escape = λ i l. goes-by _ (all-at writable w goes i l) .1;
+        first-start = starts-at p w starts;
+        last-end = λ i l. rw (ends-at w true ends i l) end-newline;
+        last-newline = ends-at w true ends;
       }
 
 pub queue-gets-yes : QueueGetsYes
@@ -98,8 +98,8 @@ pub yes-passes : YesPasses
 yes-passes page run e =
     let ok = not-refused (accepted page) (areChars run) (sym (check-run-order page run) ∙ ap refusalIn e) in
     let r = says page run .yes-rules e in
-    passes-plain page (ok .0) run (ok .1) (all-of writable run (λ i l. writes _ (r .accepted i l) (r .no-escape i l)))
-    (starts-of page run (r .first)) (ends-of run (r .newline))
+    passes-plain page (ok .0) run (ok .1) (all-of writable run (λ i l. writes _ (r .all-accepted i l) (r .none-escape i l)))
+    (starts-of page run (r .first-start)) (ends-of run (r .last-newline))
 
 -- ---- refusals
 -- by whether the page is right (a) and the values are characters (c), where the count (n) and the places (m) are enough

@@ -1,12 +1,14 @@
 //! Compares two files of answers to a script of one kind: `answers KIND SCRIPT ORACLE OURS`. Prints how many answers were
-//! compared, those by `?` apart, to which operations, how often each refusal was met, and how many long calls stood at their limit
-//! of places: with exactly what they need, and with one place less. It ends with 1, and says why, at the first difference, at an answer that is missing on either side or on both, at an answer too many, at a script without
+//! compared, those by `?` apart, to which operations, how often each refusal was met, how many long calls stood at their limit of
+//! places, with exactly what they need and with one place less, and how many long runs were checked. It ends with 1, and says why, at
+//! the first difference, at an answer that is missing on either side or on both, at an answer too many, at a script without
 //! operations, and where an operation or a refusal that the kind must have was not met.
 
 use harness::scripts::lent::lent;
 use harness::scripts::write::Known;
 use harness::scripts::{KINDS, LONG};
 use harness::words::is_operation;
+use std::borrow::Cow;
 use std::collections::BTreeMap;
 use std::fmt;
 use std::fs::File;
@@ -52,7 +54,7 @@ struct Met {
     /// The answers that were compared, by their operations.
     operations: BTreeMap<String, usize>,
     refusals: BTreeMap<u32, usize>,
-    /// The long calls at their limit, by the names that a kind asks for.
+    /// The long calls at their limit and the long runs that were checked, by the names that a kind asks for.
     long: BTreeMap<String, usize>,
     /// The writer, whose kept and held characters need places too.
     writer: Known,
@@ -91,14 +93,10 @@ impl Met {
             self.faults += 1;
             return;
         }
-        let name = match answer {
-            "page 0" => "P wrong",
-            "yes" => "A check yes",
-            _ => fault(answer).unwrap_or(name(operation)),
-        };
-        match self.operations.get_mut(name) {
+        let named = full_name(operation, answer);
+        match self.operations.get_mut(named.as_ref()) {
             Some(count) => *count += 1,
-            None => drop(self.operations.insert(name.to_owned(), 1)),
+            None => drop(self.operations.insert(named.into_owned(), 1)),
         }
         if let Some(number) = refusal(answer) {
             *self.refusals.entry(number).or_default() += 1;
@@ -113,6 +111,10 @@ impl Met {
     }
 
     fn learn_long(&mut self, operation: &str, answer: &str) {
+        if name(operation) == "A check" && operation.split(' ').count() >= LONG + 2 {
+            *self.long.entry(format!("{} long", full_name(operation, answer))).or_default() += 1;
+            return;
+        }
         let Some(lent) = lent(operation, self.writer.needed).filter(|lent| lent.length >= LONG) else {
             return;
         };
@@ -151,7 +153,7 @@ impl fmt::Display for Met {
             write!(f, "\n  refused by {}", refusals.join(", "))?;
         }
         if !self.long.is_empty() {
-            write!(f, "\n  at the limit of places: {}", counts(&self.long))?;
+            write!(f, "\n  long: {}", counts(&self.long))?;
         }
         Ok(())
     }
@@ -177,14 +179,12 @@ fn name(operation: &str) -> &str {
     operation.match_indices(' ').nth(words - 1).map_or(operation, |(end, _)| &operation[..end])
 }
 
-/// The operation that answers a fault, with the fault's kind.
-fn fault(answer: &str) -> Option<&'static str> {
-    match answer.strip_prefix("fault ")?.split(' ').nth(1)? {
-        "char" => Some("A check char"),
-        "start" => Some("A check start"),
-        "end" => Some("A check end"),
-        "newline" => Some("A check newline"),
-        _ => None,
+/// The same with what a kind asks for of the answer: a page that is wrong; of a check `yes`, or the kind of the fault.
+fn full_name<'a>(operation: &'a str, answer: &str) -> Cow<'a, str> {
+    match (name(operation), answer.rsplit(' ').next()) {
+        ("P", Some("0")) => "P wrong".into(),
+        (name @ "A check", Some(word)) if refusal(answer).is_none() => format!("{name} {word}").into(),
+        (name, _) => name.into(),
     }
 }
 

@@ -1,8 +1,9 @@
-//! Holds answers to a script of the kind `demand` to demand 3: `promise SCRIPT ANSWERS`. Where the queue holds none of the
-//! excepted characters, the queue is the same for both cuts of the text, its one write hands out what isolation of the
-//! queue as one run gives, the close succeeds, and the check of the queue says yes. Prints how many queues passed, of these how many where every call that succeeds
-//! is lent exactly what it needs, and how many such of thousands of characters; or the first that does not pass. A missing answer is
-//! a failure, and so is a script that has none of one of these, or no queue with an excepted character.
+//! Holds answers to a script of the kind `demand` to demand 3: `promise SCRIPT ANSWERS`. The queue is the same for both cuts of
+//! the text. Where it holds none of the excepted characters, its one write hands out what isolation of the queue as one run gives,
+//! the close succeeds, and the check of the queue says yes; else the check says where the first of them is. Prints how many queues
+//! passed, of these how many where every call that succeeds is lent exactly what it needs, and how many such of thousands of
+//! characters; or the first that does not pass. A missing answer is a failure, and so is a script that has none of one of these, or
+//! no queue with an excepted character.
 
 use harness::leaves::is_excepted;
 use harness::scripts::lent::lent;
@@ -25,7 +26,7 @@ fn main() -> io::Result<ExitCode> {
         let learnt =
             answers.next().ok_or("an operation has no answer").and_then(|answer| seen.learn(operation, answer));
         if let Err(broken) = learnt {
-            println!("BROKEN PROMISE: {broken}\n  queue:   {:x?}\n  written: {}", seen.queue, seen.written);
+            println!("BROKEN PROMISE: {broken}\n  queue:   {:x?}\n  answers: {:?}", seen.queue, seen.answers);
             return Ok(ExitCode::FAILURE);
         }
     }
@@ -37,17 +38,22 @@ fn main() -> io::Result<ExitCode> {
     Ok(ExitCode::from(u8::from(seen.exact == 0 || seen.long == 0 || seen.excepted == 0)))
 }
 
+/// What the calls on a queue answered; none before the call.
+#[derive(Default, Debug)]
+struct Answers {
+    written: String,
+    closed: String,
+    checked: String,
+}
+
 /// What is seen of a text so far, and the counts.
 #[derive(Default)]
 struct Seen {
     /// The queue of the current cut, and that of the cut before it.
     queue: Vec<u32>,
     other: Vec<u32>,
-    /// The answers of the write and of the close.
-    written: String,
-    closed: String,
-    /// The answer of its check.
-    checked: String,
+    /// What its write, its close and its check answered.
+    answers: Answers,
     /// Whether a call that succeeded was lent more than it needs.
     over: bool,
     /// The queues that pass, those of them where none was, and those of these that are long.
@@ -65,9 +71,10 @@ impl Seen {
         match words.as_slice() {
             ["S", "new"] => self.other = std::mem::take(&mut self.queue),
             ["S", _] => self.queue.extend(listed(answer)),
-            ["W", "chars"] => self.written = answer.to_owned(),
-            ["W", "close"] => self.closed = answer.to_owned(),
-            ["A", "check"] => self.checked = answer.to_owned(),
+            ["P", _] => self.answers = Answers::default(),
+            ["W", "chars"] => self.answers.written = answer.to_owned(),
+            ["W", "close"] => self.answers.closed = answer.to_owned(),
+            ["A", "check"] => self.answers.checked = answer.to_owned(),
             ["L", "isolate"] => {
                 let over = std::mem::take(&mut self.over);
                 return self.judge(answer, over);
@@ -81,18 +88,21 @@ impl Seen {
         if self.queue != self.other {
             return Err("another cut gives another queue");
         }
-        if self.queue.iter().any(|c| is_excepted(*c)) {
+        if let Some(place) = self.queue.iter().position(|c| is_excepted(*c)) {
+            if self.answers.checked != format!("fault {place:x} char") {
+                return Err("the check of the queue does not say where an excepted character is");
+            }
             self.excepted += 1;
             return Ok(());
         }
         let isolated = isolated.replacen("n=", "k=", 1);
-        if !isolated.starts_with("ok") || !self.written.starts_with(&isolated) {
+        if !isolated.starts_with("ok") || !self.answers.written.starts_with(&isolated) {
             return Err("the write does not hand out the queue isolated as one run");
         }
-        if !self.closed.starts_with("ok") {
+        if !self.answers.closed.starts_with("ok") {
             return Err("the close is refused");
         }
-        if self.checked != "yes" {
+        if self.answers.checked != "yes" {
             return Err("the check of the queue does not say yes");
         }
         self.passed += 1;

@@ -8,6 +8,7 @@ use crate::page::real_numbers;
 use crate::random::Random;
 use crate::replay::Oracle;
 use crate::words::listed;
+use std::ops::RangeInclusive;
 
 /// Nothing wrong and a newline; refused: ESC, a control, an excepted one, one that is no start either; no start; neither start nor
 /// end; no end; what a page may make a nonstarter, and 34F; no character.
@@ -26,32 +27,29 @@ const PAGES: [&[u32]; 5] = [
 /// From so many operations on the short runs have four characters, else three.
 const MANY: usize = 1_000_000;
 
+/// So many that are drawn come before the longer ones of the short runs.
+const SOME: usize = 60;
+
 /// The longest text of a stream: its queue is under the protocol's limit.
 const LONGEST: usize = 2_000;
 
 pub fn script(random: &mut Random, count: usize) -> Vec<String> {
     let most = if count < MANY { 3 } else { 4 };
     let pages: Vec<Vec<u32>> = PAGES.iter().map(|page| page.to_vec()).chain([real_numbers()]).collect();
-    let mut lines = Vec::new();
-    // The shortest first: the stored sample has these with every page.
-    for lengths in [0..=1, 2..=most] {
-        for page in &pages {
-            lines.push(page_line(page));
-            lines.extend(lengths.clone().flat_map(runs).map(check));
-        }
-    }
+    let every = |lengths: RangeInclusive<u32>| {
+        let of_page = move |page: &Vec<u32>| {
+            std::iter::once(page_line(page)).chain(lengths.clone().flat_map(runs).map(check)).collect::<Vec<_>>()
+        };
+        pages.iter().flat_map(of_page).collect::<Vec<_>>()
+    };
+    let mut drawn = Drawn { oracle: Oracle::new(false), awkward: Awkward::gather() };
+    // The shortest, and some that are drawn, come first: the stored sample has these.
+    let mut lines = every(0..=1);
+    lines.extend(drawn.lines(random, SOME));
+    lines.extend(every(2..=most));
+    let rest = count.saturating_sub(lines.len());
+    lines.extend(drawn.lines(random, rest));
     lines.truncate(count);
-    let mut script = Drawn { oracle: Oracle::new(false), awkward: Awkward::gather() };
-    if lines.len() < count {
-        script.page(random, &mut lines);
-    }
-    while lines.len() < count {
-        if random.once_in(30) {
-            script.page(random, &mut lines);
-        }
-        let run = script.run(random);
-        lines.push(check(run));
-    }
     lines
 }
 
@@ -73,10 +71,16 @@ struct Drawn {
 }
 
 impl Drawn {
-    fn page(&mut self, random: &mut Random, lines: &mut Vec<String>) {
+    /// So many lines: a page, and then runs, with a page now and then.
+    fn lines(&mut self, random: &mut Random, count: usize) -> Vec<String> {
+        let line = |at| if at == 0 || random.once_in(30) { self.page(random) } else { check(self.run(random)) };
+        (0..count).map(line).collect()
+    }
+
+    fn page(&mut self, random: &mut Random) -> String {
         let line = page_line(&alphabet::page(random));
         self.oracle.answer(&line);
-        lines.push(line);
+        line
     }
 
     fn run(&mut self, random: &mut Random) -> Vec<u32> {
@@ -132,9 +136,10 @@ fn changed(random: &mut Random, mut queue: Vec<u32>) -> Vec<u32> {
     let any = random.below(queue.len());
     let at = random.pick(&[0, queue.len() - 1, any]);
     let c = random.pick(&CHARACTERS);
-    match random.below(3) {
+    match random.below(4) {
         0 => drop(queue.remove(at)),
         1 => queue.insert(at, c),
+        2 => queue.push(c),
         _ => queue[at] = c,
     }
     queue

@@ -1,7 +1,7 @@
 //! Demand 3 from end to end: a text in chunks, with refused calls between them, finished as end of file; then its queue
-//! written whole to a plain writer, which is closed, checked, and isolated as one run. Each text is cut in two ways. In most passages every
-//! call that is to succeed is lent exactly what it needs. The oracle runs along, so that the queue is known; the program
-//! `promise` holds the answers to the promise.
+//! written whole to a plain writer, which is closed, checked, and isolated as one run. Each text is cut in two ways. In most
+//! passages every call that is to succeed is lent exactly what it needs. The oracle runs along, so that the queue is known;
+//! the program `promise` holds the answers to the promise.
 
 use super::{alphabet, operation, page_line};
 use crate::leaves::is_excepted;

@@ -1,5 +1,5 @@
-//! The entries on one character, for every character, with the real page; then the start class with made-up pages. With a
-//! larger step it is one character in so many, and the seed shifts them. Values that are no characters follow, whatever the
+//! The entries on one character, for every character, with the real page, and the check of two runs of two, in which it is the
+//! first and the last; then the start class with made-up pages. With a larger step it is one character in so many, and the seed shifts them. Values that are no characters follow, whatever the
 //! step.
 
 use super::{operation, real_page_line};
@@ -20,7 +20,9 @@ const NO_CHARACTERS: [u32; 24] = [
 ];
 
 pub fn script(seed: u64, step: usize) -> impl Iterator<Item = String> {
-    let all = values(seed, step).flat_map(|value| ENTRIES.map(|entry| operation(entry, [value])));
+    let alone = |value: u32| ENTRIES.map(|entry| operation(entry, [value]));
+    let in_runs = |value: u32| [[value, 0x0A], [0x61, value]].map(|run| operation("A check", run));
+    let all = values(seed, step).flat_map(move |value| alone(value).into_iter().chain(in_runs(value)));
     let starts = MADE_UP.into_iter().flat_map(move |page| {
         std::iter::once(page.to_owned()).chain(values(seed, step).map(|value| operation("L start", [value])))
     });

@@ -21,17 +21,23 @@ use crate::page::real_numbers;
 use crate::random::Random;
 
 /// The kinds of script, each with what its answers must have, or nothing of that kind was compared: the operations and the
-/// refusals. `P wrong` is a page that is not accepted. `A check` has its answer behind it: `yes`, or the fault's kind. `long` after an operation: on `LONG` characters at least it succeeds with
-/// exactly the places that it needs. `long short`: with one place less it is refused by 8.
+/// refusals. `P wrong` is a page that is not accepted. `A check` has its answer behind it: `yes`, or the fault's kind. `long` after
+/// an operation: on `LONG` characters at least it succeeds with exactly the places that it needs, or checks them. `long short`:
+/// with one place less it is refused by 8.
 pub const KINDS: [(&str, &str, &[u32]); 15] = [
     ("pages", "P, P wrong", &[]),
     ("utf8", "L utf8", &[]),
-    ("every", "P, L check, L end, L replace, L start", &[1, 4]),
+    ("every", "P, L check, L end, L replace, L start, A check yes, A check char, A check start, A check end", &[1, 4]),
     ("leaves", "P, P wrong, L check, L end, L replace, L start", &[1, 2, 4]),
     ("isolate", "P, P wrong, L isolate, L isolate long, L isolate long short", &[1, 2, 8]),
     ("scan", "P, P wrong, S count, S fin, S new, S scan, S scan long, S scan long short", &[1, 2, 8, 10]),
     ("fill", "F", &[1, 7]),
-    ("check", "P, P wrong, A check yes, A check char, A check start, A check end, A check newline", &[1, 2]),
+    (
+        "check",
+        "P, P wrong, A check yes, A check char, A check start, A check end, A check newline, A check yes long, \
+         A check char long, A check newline long",
+        &[1, 2],
+    ),
     (
         "cases",
         "P, P wrong, L check, L end, L isolate, L start, S count, S fin, S new, S scan, F",
@@ -61,7 +67,8 @@ pub const KINDS: [(&str, &str, &[u32]); 15] = [
     ),
     (
         "real",
-        "P, L isolate, S count, S fin, S new, S scan, W abandon, W bytes, W chars, W close, W flush, W held, W new, W places",
+        "P, L isolate, S count, S fin, S new, S scan, A check yes, A check start, W abandon, W bytes, W chars, W close, \
+         W flush, W held, W new, W places",
         &[1, 3, 4, 5, 6, 8, 9, 10, 11, 12, 13],
     ),
     ("sample", "P, P wrong, L utf8", &[]),
@@ -75,7 +82,7 @@ pub type Lines = Box<dyn Iterator<Item = String>>;
 
 /// `count` operations of a kind; none if there is no such kind. `cases` and `write-cases` are whole whatever the count, in
 /// `every` the count is a step, one character in so many, in `sample` it is that of the random ones, and `real` has so many of
-/// each of its three kinds. `demand` ends with a whole text, past the count.
+/// each of its four kinds. `demand` ends with a whole text, past the count.
 pub fn script(kind: &str, seed: u64, count: usize) -> Option<Lines> {
     match kind {
         "every" => Some(Box::new(every::script(seed, count))),
@@ -107,9 +114,10 @@ fn drawn(kind: &str, seed: u64, count: usize) -> Option<Vec<String>> {
     Some(lines)
 }
 
-/// The operations of three kinds, with the real page in the place of every other.
+/// The operations of four kinds, with the real page in the place of every other.
 fn with_real_page(seed: u64, count: usize) -> impl Iterator<Item = String> {
-    let lines = ["isolate", "scan", "write"].into_iter().filter_map(move |kind| drawn(kind, seed, count)).flatten();
+    let lines =
+        ["isolate", "scan", "check", "write"].into_iter().filter_map(move |kind| drawn(kind, seed, count)).flatten();
     std::iter::once(real_page_line()).chain(lines.filter(|line| !line.starts_with('P')))
 }
 

@@ -43,7 +43,7 @@ pub fn writable(mut text: Vec<char>) -> Vec<char> {
 }
 
 /// Such a text cut into runs of a size, each of which the check of a run says yes to: its first character is a letter, its last a newline.
-pub fn clean(text: Vec<char>, size: usize) -> Vec<char> {
+pub fn keeping(text: Vec<char>, size: usize) -> Vec<char> {
     let mut text = writable(text);
     for run in text.chunks_mut(size) {
         run[0] = 'a';

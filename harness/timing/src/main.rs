@@ -21,7 +21,7 @@ mod ours;
 mod rust;
 
 use clock::{least, Times};
-use inputs::{clean, writable, INPUTS};
+use inputs::{keeping, writable, INPUTS};
 use leaves::{Chunk, Leaf, Lent, CHECK_RUN, EXPORTED_SCAN, ISOLATE, LEAVES, PAGE, SCAN, WRITES};
 use std::process::ExitCode;
 
@@ -88,7 +88,7 @@ fn of_characters(lent: &mut Lent) {
         }
     }
     for input in &INPUTS {
-        let text = clean((input.text)(CHUNK * CHUNKS), CHUNK);
+        let text = keeping((input.text)(CHUNK * CHUNKS), CHUNK);
         row(CHECK_RUN.name, input.name.trim_end_matches(" CRLF"), per_character(&CHECK_RUN, lent, &text, CHUNK));
     }
     for size in SMALL {

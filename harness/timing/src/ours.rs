@@ -12,7 +12,8 @@ mod linked {
         pub fn bench_replace(chars: *const u32, count: usize) -> u32;
         /// How many of the characters the check accepts.
         pub fn bench_check(chars: *const u32, count: usize) -> u32;
-        /// The place of the run's first fault with its kind's number added, 1 to 4; 0 for none, and for a refusal.
+        /// Four times the place of the run's first fault with its kind's number added, 1 to 4; 0 for none, the greatest number for a
+        /// refusal.
         pub fn bench_check_run(page: *const u32, size: usize, chars: *const u32, count: usize) -> usize;
         /// Writes the isolated run to the places from `out` on, which nothing else has: how many, or 0 for a refusal.
         pub fn bench_isolate(

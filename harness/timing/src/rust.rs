@@ -27,7 +27,7 @@ pub fn check(chars: &[char]) -> u32 {
     chars.iter().map(|c| u32::from(check_basic_text_char(*c).is_ok())).sum()
 }
 
-/// The place of the run's first fault with its kind's number added; 0 for none. The original has no such function: this is one over its
+/// Four times the place of the run's first fault with its kind's number added; 0 for none. The original has no such function: this is one over its
 /// check, start and end that stops at the first fault.
 pub fn check_run(chars: &[char]) -> usize {
     let refused = |c: char| c == ESC || check_basic_text_char(c).is_err();
@@ -41,13 +41,13 @@ pub fn check_run(chars: &[char]) -> usize {
         return 2;
     }
     if let Some(place) = chars.iter().position(|c| refused(*c)) {
-        return place + 1;
+        return 4 * place + 1;
     }
     if !is_basic_text_end(*last) {
-        return chars.len() + 2;
+        return 4 * (chars.len() - 1) + 3;
     }
     if *last != '\n' {
-        return chars.len() + 3;
+        return 4 * (chars.len() - 1) + 4;
     }
     0
 }

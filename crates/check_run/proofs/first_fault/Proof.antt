@@ -28,10 +28,10 @@ returns-3 c =
     (sym (c .before .is-basic-text-start .ensures) ∙ not-true _ (c .if3 .taken))
 
 -- the first is a start
-abbrev Start : tie.Else3 → tie.Start
-Start c = c .before .before .before .before .before .before .before .before .before
+abbrev Entry : tie.Else3 → tie.Start
+Entry c = c .before .before .before .before .before .before .before .before .before
 
-starts : (c : tie.Else3) → basicTextStart (Start c .args .page .now) (getD (Start c .args .run .now) 0 0) ≡ true
+starts : (c : tie.Else3) → basicTextStart (Entry c .args .page .now) (getD (Entry c .args .run .now) 0 0) ≡ true
 starts c = sym (c .before .is-basic-text-start .ensures) ∙ not-false _ (c .if3 .left)
 
 returns-4 : tie.Need-returns-4
@@ -39,7 +39,7 @@ returns-4 c = later-char _ _ (starts (c .before .before)) _ (c .before .allowed-
 
 -- all are allowed: the faults are those of the last
 abbrev Begun : tie.Else4 → tie.Start
-Begun c = Start (c .before .before)
+Begun c = Entry (c .before .before)
 
 of-last : (c : tie.Else4)
     → firstNumbers (lastFaults (getD (Begun c .args .run .now) (length (Begun c .args .run .now) - 1) 0) (length (Begun c .args .run .now) - 1))
