@@ -1,4 +1,4 @@
--- The entry: what the check of a run answers, by document 02's numbers. Nothing is lent to be written.
+-- The entry: what the check of a run answers, and what the answer says. Nothing is lent to be written. Document 02, A.1.
 use Prim.Native.Nat.{ℕ, suc}
 use mathlib.Core.Bool.{Bool, true, false, not, cond, _&&_}
 use mathlib.Core.List.{List, [], _∷_, _++_}
@@ -72,7 +72,7 @@ unfoldable pub checkRunOf : List ℕ → List ℕ → List ℕ
 checkRunOf p cs = cond (not (accepted p)) (2 ∷ []) (cond (not (areChars cs)) (1 ∷ []) (firstNumbers (faults p cs)))
 
 -- ---- what an answer says
--- of a page and a run, whatever they are; that the page is accepted and all are characters is asked where nothing else would show it
+-- of any page and run. The second of each pair asks for an accepted page and characters, since a refusal is neither yes nor a fault
 pub record Says (p cs answer : List ℕ) : Type 0 where
   -- "Yes must hold exactly when all rules hold"
   pub yes-rules : answer ≡ yesNumbers → Rules p cs

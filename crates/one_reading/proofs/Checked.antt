@@ -3,9 +3,12 @@
 -- rules, place by place, and what a plain writer asks for (`passes-plain` of text_output).
 --     queue-gets-yes     the queue of such a stream gets yes
 --     yes-passes         a run that gets yes passes a plain writer
+--     worked-gets-yes    the queue of the worked list of calls gets yes
+--     marked-as-scanner  start and end faults are where the scanner puts 34F
 --     refused-as-scan    pages and values are refused as by a scan
 use Prim.Native.Nat.{ℕ, zero, suc, _+_, _*_, _≤_, _<_}
-use mathlib.Core.Bool.{Bool, true, false, not, _&&_, and-false}
+use mathlib.Core.Bool.{Bool, true, false, not, cond, _&&_, and-false}
+use mathlib.Core.Logic.{inl, inr}
 use mathlib.Core.List.{List, [], _∷_}
 use mathlib.Core.Path.{_≡_, refl, sym, ap, _∙_}
 use native.Mathlib.Omega.{arith}
@@ -14,21 +17,26 @@ use lib.ListN.{length, getD}
 use borrow.Author.Tests.{eqb-true, eqb-false, eq-eqb, ne-eqb, not-true, le-ltb}
 use Rattle.common.specs.Answers.{refusalIn}
 use Rattle.common.specs.Order.{_when_, firstOf}
-use Rattle.common.proofs.Kit.{both, both-true}
+use Rattle.common.proofs.Kit.{by, both, both-true}
 use Rattle.unicode.specs.Chars.{areChars}
 use Rattle.page.specs.Page.{accepted}
-use Rattle.text_utils.specs.Classes.{basicTextStart}
+use Rattle.text_utils.specs.Classes.{basicTextStart, basicTextEnd}
 use Rattle.text_utils.proofs.Classes.{end-newline}
 use Rattle.check_char.specs.Check.{reasonOf, all}
-use Rattle.check_run.specs.Rules.{Rules}
-use Rattle.check_run.specs.Check.{yesNumbers, checkRunOf}
+use Rattle.check_run.specs.declared.FaultKind.the-variants.{Start, End, Newline}
+use Rattle.check_run.specs.Rules.{Rules, Before, First}
+use Rattle.check_run.specs.Check.{yesNumbers, checkRunOf, Says}
 use Rattle.check_run.proofs.Laws.{says}
 use Rattle.check_run.proofs.Answers.{check-run-order}
+use Rattle.text_input.specs.Pieces.{startMark, endMark}
 use Rattle.text_input.proofs.Refusals.{scan-order}
 use Rattle.text_output.proofs.Writable.{writable}
 use Rattle.text_output.proofs.Passing.{startsWell, endsWell, passes-plain}
 use Rattle.one_reading.specs.Calls.{queueOf}
-use Rattle.one_reading.specs.Checked.{QueueGetsYes, YesPasses, RefusedAsScan}
+use Rattle.one_reading.specs.Cases.{page, options}
+use Rattle.one_reading.specs.Worked.{calls, seen}
+use Rattle.one_reading.specs.Checked.{QueueGetsYes, YesPasses, MarkedAsScanner, RefusedAsScan}
+use Rattle.one_reading.proofs.Worked.{worked}
 use Rattle.one_reading.proofs.Demand.{queue-chars, queue-writable, queue-starts, queue-ends}
 
 -- ---- a list, place by place
@@ -84,6 +92,9 @@ queue-gets-yes page good options calls once seen saw none =
     says page (queueOf seen) .rules-yes good (queue-chars page good options calls once seen saw)
     (rules page (queueOf seen) (queue-writable page good options calls once seen saw none) (queue-starts page good options calls once seen saw) (queue-ends page good options calls once seen saw))
 
+pub worked-gets-yes : checkRunOf page (queueOf seen) ≡ yesNumbers
+worked-gets-yes = queue-gets-yes page (worked .good) options calls (worked .once) seen (worked .saw) (worked .none)
+
 -- ---- what gets yes
 -- a page and a run that are not refused
 not-refused : (a c : Bool) → firstOf (2 when not a ∷ 1 when not c ∷ []) ≡ 0 → (a ≡ true) × (c ≡ true)
@@ -100,6 +111,64 @@ yes-passes page run e =
     let r = says page run .yes-rules e in
     passes-plain page (ok .0) run (ok .1) (all-of writable run (λ i l. writes _ (r .all-accepted i l) (r .none-escape i l)))
     (starts-of page run (r .first-start)) (ends-of run (r .last-newline))
+
+-- ---- 34F
+module _ (p : List ℕ) where
+  no-start-mark : (w : List ℕ) → (0 < length w → basicTextStart p (getD w 0 0) ≡ true) → startMark p w ≡ []
+  unfolding startMark
+  no-start-mark [] h = refl
+  no-start-mark (x ∷ w) h = rw (h (omega arith))
+
+  a-start-mark : (w : List ℕ) → 0 < length w → basicTextStart p (getD w 0 0) ≡ false → startMark p w ≡ 0x34F ∷ []
+  unfolding startMark
+  a-start-mark [] l h = absurd (omega arith)
+  a-start-mark (x ∷ w) l h = rw h
+
+-- b: whether the last character is an end
+end-mark-by : (b : Bool) (w : List ℕ) (i : ℕ) → i + 1 ≡ length w → basicTextEnd (getD w i 0) ≡ b → endMark w ≡ cond b [] (0x34F ∷ [])
+unfolding endMark
+end-mark-by b [] i l h = absurd (omega arith)
+end-mark-by b (x ∷ []) zero l h = rw h
+end-mark-by b (x ∷ []) (suc i) l h = absurd (omega arith)
+end-mark-by b (x ∷ y ∷ w) zero l h = absurd (omega arith)
+end-mark-by b (x ∷ y ∷ w) (suc i) l h = end-mark-by b (y ∷ w) i (omega arith) h
+
+no-end-mark : (w : List ℕ) → ((i : ℕ) → i + 1 ≡ length w → basicTextEnd (getD w i 0) ≡ true) → endMark w ≡ []
+unfolding endMark
+no-end-mark [] h = refl
+no-end-mark (x ∷ w) h = end-mark-by true (x ∷ w) (length w) (omega arith) (h (length w) (omega arith))
+
+module _ (page run : List ℕ) where
+  -- a newline fault that is the first leaves a first that is a start, and a last that is an end
+  module _ (place : ℕ) (f : First page run place Newline) where
+    begins : 0 < length run → basicTextStart page (getD run 0 0) ≡ true
+    begins l =
+        by (basicTextStart page (getD run 0 0)) (λ e. e)
+        (λ e. absurd (f .no-earlier 0 Start (earlier place (omega arith)) (refl, (l, e))))
+      where
+        earlier : (n : ℕ) → 0 ≤ n → Before 0 Start n Newline
+        earlier zero l = inr (refl, omega arith)
+        earlier (suc n) l = inl (omega arith)
+
+    ends : (i : ℕ) → i + 1 ≡ length run → basicTextEnd (getD run i 0) ≡ true
+    ends i l =
+        by (basicTextEnd (getD run i 0)) (λ e. e)
+        (λ e. absurd (f .no-earlier i End (inr (omega (arith, f .is .0), omega arith)) (l, e)))
+
+  pub marked-as-scanner : MarkedAsScanner page run (checkRunOf page run)
+  marked-as-scanner =
+      record {
+        start = λ place e. let b = said .fault-first place Start e .is in a-start-mark page run (omega (arith, b .1 .0)) (rw (b .0) at (b .1 .1));
+        end = λ place e. let b = said .fault-first place End e .is in end-mark-by false run place (b .0) (b .1);
+        newline =
+            λ place e.
+            let f = said .fault-first place Newline e in
+            (no-start-mark page run (begins place f), no-end-mark run (ends place f));
+        yes = λ e. let r = said .yes-rules e in (no-start-mark page run (r .first-start), no-end-mark run (r .last-end));
+      }
+    where
+      said : Says page run (checkRunOf page run)
+      said = says page run
 
 -- ---- refusals
 -- by whether the page is right (a) and the values are characters (c), where the count (n) and the places (m) are enough

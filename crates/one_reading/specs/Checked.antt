@@ -2,16 +2,18 @@
 -- queue gets yes, what gets yes passes a plain writer, and pages and values are refused as by a scan.
 use Prim.Native.Nat.{ℕ, _+_, _*_, _≤_}
 use mathlib.Core.Bool.{true}
-use mathlib.Core.List.{List}
+use mathlib.Core.List.{List, [], _∷_}
 use mathlib.Core.Path.{_≡_}
 use lib.ListN.{length}
 use Rattle.common.specs.Answers.{refusalIn}
 use Rattle.page.specs.Page.{accepted}
 use Rattle.isolate_unassigned.specs.Meaning.{isolated}
-use Rattle.check_run.specs.Check.{yesNumbers, checkRunOf}
+use Rattle.check_run.specs.declared.FaultKind.the-variants.{Start, End, Newline}
+use Rattle.check_run.specs.Check.{yesNumbers, faultNumbers, checkRunOf}
 use Rattle.text_input.specs.declared.Options.{Options}
 use Rattle.text_input.specs.declared.TextInput.{TextInput}
 use Rattle.text_input.specs.Scan.{Outcome, fresh, scanOf}
+use Rattle.text_input.specs.Pieces.{startMark, endMark}
 use Rattle.text_output.specs.declared.Mode.the-variants.{Plain}
 use Rattle.text_output.specs.Passing.{PassesIn}
 use Rattle.one_reading.specs.Calls.{Call, Seen, queueOf, acceptedFrom, FinishedOnce}
@@ -26,10 +28,18 @@ QueueGetsYes =
     (seen : List Outcome) → Seen fresh calls seen →
     NoneExcepted (queueOf seen) → checkRunOf page (queueOf seen) ≡ yesNumbers
 
--- "Yes must hold exactly when all rules hold": so a run that gets it passes a fresh plain writer in one write, which then closes. Not the
--- other way: a write isolates, and so takes runs that begin with no start
+-- Beyond A.1: a run that gets yes passes a fresh plain writer in one write, which then closes. Not the other way: a write isolates, and so
+-- takes runs that begin with no start
 abbrev pub YesPasses : Type 0
 YesPasses = (page run : List ℕ) → checkRunOf page run ≡ yesNumbers → PassesIn Plain page run (isolated page run)
+
+-- "first a start, last an end": as the scanner has it. A start fault is told where a cleaned text has 34F before such characters, an end
+-- fault where it has 34F behind them; and where a newline fault is the first, or none is, it has neither
+pub record MarkedAsScanner (page run answer : List ℕ) : Type 0 where
+  pub start : (place : ℕ) → answer ≡ faultNumbers place Start → startMark page run ≡ 0x34F ∷ []
+  pub end : (place : ℕ) → answer ≡ faultNumbers place End → endMark run ≡ 0x34F ∷ []
+  pub newline : (place : ℕ) → answer ≡ faultNumbers place Newline → (startMark page run ≡ []) × (endMark run ≡ [])
+  pub yes : answer ≡ yesNumbers → (startMark page run ≡ []) × (endMark run ≡ [])
 
 -- "pages and values are tested as for a scan": the check of a run is refused by the number by which a scan of it is, by any record and
 -- options, where the scan's count and places are enough

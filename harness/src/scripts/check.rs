@@ -11,9 +11,9 @@ use crate::words::listed;
 use std::ops::RangeInclusive;
 
 /// Nothing wrong and a newline; refused: ESC, a control, an excepted one, one that is no start either; no start; neither start nor
-/// end; no end; what a page may make a nonstarter, and 34F; no character.
-const CHARACTERS: [u32; 14] =
-    [0x61, 0xE9, 0x0A, 0x1B, 0x7F, 0x2126, 0x17B4, 0x301, 0x903, 0x200D, 0x600, 0x378, 0x34F, 0xD800];
+/// end; no end, one of each of its lists; what a page may make a nonstarter, and 34F; no character.
+const CHARACTERS: [u32; 16] =
+    [0x61, 0xE9, 0x0A, 0x1B, 0x7F, 0x2126, 0x17B4, 0x301, 0x903, 0x200D, 0x600, 0xD4E, 0x111C2, 0x378, 0x34F, 0xD800];
 
 /// The page of the start; 378 a nonstarter; marks nonstarters and all assigned; 61 a nonstarter; a wrong one.
 const PAGES: [&[u32]; 5] = [
