@@ -9,10 +9,8 @@ use Rattle.common.specs.Answers.{refusalIn}
 use Rattle.common.specs.Order.{_when_, firstOf}
 use Rattle.unicode.specs.Chars.{areChars}
 use Rattle.page.specs.Page.{accepted}
-use Rattle.check_run.specs.declared.FaultKind.{FaultKind}
 use Rattle.check_run.specs.declared.Verdict.{Verdict}
 use Rattle.check_run.specs.declared.Verdict.the-variants.{Yes, Fault, Refused}
-use Rattle.check_run.specs.Rules.{kindNumber}
 use Rattle.check_run.specs.Check.{Found, fault, faults, firstNumbers, verdictNumbers, checkRunOf}
 use Rattle.check_run.proofs.Laws.{kindOf, kind-back}
 

@@ -7,9 +7,9 @@
 --     later-char     all before a place are allowed, and the one there is not
 --     last-char      all are allowed: the faults of the last character
 use Prim.Native.Nat.{ℕ, zero, suc, _+_, _-_, _≤_, _<_}
-use mathlib.Core.Bool.{Bool, true, false, not, cond, _&&_}
-use mathlib.Core.List.{List, [], _∷_, _++_, append-nil}
-use mathlib.Core.Path.{_≡_, refl, sym, ap, _∙_}
+use mathlib.Core.Bool.{true, false, not, cond, _&&_}
+use mathlib.Core.List.{List, [], _∷_, append-nil}
+use mathlib.Core.Path.{_≡_, refl, sym}
 use native.Mathlib.Nat.{zero-add, add-zero}
 use native.Mathlib.Omega.{arith}
 use lib.Dec.{eqb}
@@ -21,7 +21,7 @@ use Rattle.check_run.specs.Rules.{allowed}
 use Rattle.check_run.specs.Check.{Found, fault, faultsFrom, faults, yesNumbers, faultNumbers, firstNumbers}
 use Rattle.check_run.specs.Inner.{AllowedUpTo}
 
--- the faults of a last character that is allowed, and no first one that is no start
+-- the faults of a last character that is allowed, and is a start where it is the first
 abbrev pub lastFaults : ℕ → ℕ → List Found
 lastFaults c place =
     cond (not (basicTextEnd c)) (fault place End ∷ cond (not (eqb c 0x0A)) (fault place Newline ∷ []) [])

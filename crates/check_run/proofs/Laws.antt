@@ -7,7 +7,6 @@ use mathlib.Core.Bool.{Bool, true, false, not, cond, _&&_, _||_}
 use mathlib.Core.List.{List, [], _∷_, _++_}
 use mathlib.Core.Logic.{_⊎_, inl, inr, ⊎-elim}
 use mathlib.Core.Path.{_≡_, refl, sym, ap, _∙_}
-use native.Mathlib.Nat.{zero-add}
 use native.Mathlib.Omega.{arith}
 use lib.Dec.{eqb, ltb}
 use lib.ListN.{length, getD}
@@ -15,12 +14,12 @@ use borrow.Author.Tests.{eq-eqb, ne-eqb, eqb-true, eqb-false, ltb-true, not-true
 use Rattle.common.proofs.Kit.{by, by-lt, never, both, both-true}
 use Rattle.unicode.specs.Chars.{areChars}
 use Rattle.page.specs.Page.{accepted}
-use Rattle.text_utils.specs.Classes.{basicTextStart, basicTextEnd}
+use Rattle.text_utils.specs.Classes.{basicTextStart}
 use Rattle.check_char.specs.Check.{reasonOf}
 use Rattle.check_run.specs.declared.FaultKind.{FaultKind}
 use Rattle.check_run.specs.declared.FaultKind.the-variants.{Char, Start, End, Newline}
 use Rattle.check_run.specs.Rules.{Rules, allowed, Broken, kindNumber, Before, First}
-use Rattle.check_run.specs.Check.{Found, fault, isLast, brokenBy, kinds, faultsAt, faultsFrom, faults, yesNumbers, faultNumbers, firstNumbers, checkRunOf, Says}
+use Rattle.check_run.specs.Check.{Found, fault, isLast, brokenBy, kinds, faultsAt, faultsFrom, faults, faultNumbers, firstNumbers, checkRunOf, Says}
 
 not-of : (b : Bool) → b ≡ false → not b ≡ true
 not-of b e = rw e

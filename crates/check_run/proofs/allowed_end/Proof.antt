@@ -1,7 +1,7 @@
 -- `allowed_end` meets its contract: all characters before the one at hand are allowed. Those of a stretch are newlines and plain
 -- characters, which the check accepts and none of which is ESC.
 use Prim.Native.Nat.{ℕ, _+_, _-_, _≤_, _<_}
-use mathlib.Core.Path.{_≡_, refl, sym, _∙_}
+use mathlib.Core.Path.{_≡_, sym, _∙_}
 use mathlib.Core.Bool.{Bool, true, false, not}
 use mathlib.Core.List.{List}
 use native.Mathlib.Omega.{arith}
@@ -12,13 +12,11 @@ use borrow.Author.Tests.{eqb-true, eq-eqb, ne-eqb, not-true, not-false}
 use borrow.Author.Count.{below-more}
 use Rattle.common.proofs.Kit.{by, by-lt, never, both}
 use Rattle.ranges.specs.declared.Range.{Range}
-use Rattle.check_char.specs.Check.{reasonOf}
 use Rattle.check_char.proofs.Clean.{accepted-newline}
 use Rattle.stretch.specs.Stretch.{inSought, Stretch}
 use Rattle.stretch.specs.Plain.{Plain, Gap, asciiOr}
 use Rattle.stretch.proofs.Clear.{sought-kept}
 use Rattle.check_run.specs.Rules.{allowed}
-use Rattle.check_run.specs.Inner.{AllowedUpTo}
 use Rattle.check_run.proofs.allowed_end.Statement.{statement}
 use Rattle.check_run.proofs.allowed_end.Tie as tie
 
