@@ -138,7 +138,8 @@ fn kind_number(kind: FaultKind) -> usize {
     }
 }
 
-// Four times the place of a run's first fault, with its kind's number added; 0 where it has none, and the greatest number where it is refused.
+// Four times the place of a run's first fault, with its kind's number added; 0 where it has none, and the greatest number where it is
+// refused.
 #[no_mangle]
 pub extern "C" fn bench_check_run(page: &[u32], cs: &[u32]) -> usize {
     let verdict = check_run(page, cs);

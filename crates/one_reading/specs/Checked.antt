@@ -1,5 +1,6 @@
 -- The check of a run (document 02, A.1) between scanner and writer: what a stream that is finished once, as end of file, leaves in its
--- queue gets yes, what gets yes passes a plain writer, and pages and values are refused as by a scan.
+-- queue gets yes, what gets yes passes a plain writer, start and end faults are where the scanner puts 34F, and pages and values are
+-- refused as by a scan.
 use Prim.Native.Nat.{ℕ, _+_, _*_, _≤_}
 use mathlib.Core.Bool.{true}
 use mathlib.Core.List.{List, [], _∷_}

@@ -1,6 +1,6 @@
 //! The entries on one character, for every character, with the real page, and the check of two runs of two, in which it is the
-//! first and the last; then the start class with made-up pages. With a larger step it is one character in so many, and the seed shifts them. Values that are no characters follow, whatever the
-//! step.
+//! first and the last; then the start class with made-up pages. With a larger step it is one character in so many, and the seed
+//! shifts them. Values that are no characters follow, whatever the step.
 
 use super::{operation, real_page_line};
 use crate::page::LAST_CHARACTER;

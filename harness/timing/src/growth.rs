@@ -2,8 +2,8 @@
 
 use crate::clock::{least, Times};
 use crate::grouped;
-use crate::inputs::GROWING;
-use crate::leaves::{Chunk, Leaf, Lent, DECODE, ISOLATE, SCAN};
+use crate::inputs::{keeping, writable, Input, GROWING};
+use crate::leaves::{Chunk, Leaf, Lent, CHECK_RUN, DECODE, ISOLATE, SCAN};
 
 /// So many characters, all in one call.
 pub const SIZES: [usize; 5] = [1_000, 10_000, 100_000, 1_000_000, MOST];
@@ -35,6 +35,18 @@ pub fn lines(lent: &mut Lent) -> Vec<Line> {
         }
     }
     lines
+}
+
+/// A line for each input of the check of a run, on runs that get yes. They are printed, and not drawn.
+pub fn check_lines(lent: &mut Lent) -> Vec<Line> {
+    let line = |input: &&Input| {
+        // More than half of each input is left.
+        let text = writable((input.text)(2 * MOST));
+        let runs = |size: usize| keeping(text[..size.max(PIECES)].to_vec(), size);
+        let times = SIZES.iter().map(|size| one_call(&CHECK_RUN, lent, &runs(*size), *size)).collect();
+        Line { leaf: CHECK_RUN.name, input: input.name, times }
+    };
+    GROWING.iter().map(line).collect()
 }
 
 /// The mean over calls on some pieces of a size, where it is small.

@@ -42,7 +42,8 @@ pub fn writable(mut text: Vec<char>) -> Vec<char> {
     text
 }
 
-/// Such a text cut into runs of a size, each of which the check of a run says yes to: its first character is a letter, its last a newline.
+/// Such a text cut into runs of a size, each of which gets yes from the check of a run: its first character is a letter, its last
+/// a newline.
 pub fn keeping(text: Vec<char>, size: usize) -> Vec<char> {
     let mut text = writable(text);
     for run in text.chunks_mut(size) {

@@ -52,6 +52,7 @@ fn main() -> ExitCode {
     of_calls(&mut lent);
     let lines = growth::lines(&mut lent);
     growth::print(&lines);
+    growth::print(&growth::check_lines(&mut lent));
     if let Err(error) = std::fs::write(chart, chart::drawn(&lines)) {
         eprintln!("timing: {chart}: {error}");
         return ExitCode::FAILURE;

@@ -27,8 +27,8 @@ pub fn check(chars: &[char]) -> u32 {
     chars.iter().map(|c| u32::from(check_basic_text_char(*c).is_ok())).sum()
 }
 
-/// Four times the place of the run's first fault with its kind's number added; 0 for none. The original has no such function: this is one over its
-/// check, start and end that stops at the first fault.
+/// Four times the place of the run's first fault with its kind's number added; 0 for none. The original has no such function: this
+/// is one over its check, start and end that stops at the first fault.
 pub fn check_run(chars: &[char]) -> usize {
     let refused = |c: char| c == ESC || check_basic_text_char(c).is_err();
     let (Some(first), Some(last)) = (chars.first(), chars.last()) else {
