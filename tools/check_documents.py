@@ -57,6 +57,7 @@ NO_PROOF = {
     "For anything left": "nothing is left to the program: the contract of an entry is an equation",
     "Other cases and published": "run and compared: harness/compare",
     "Forty brokers now": "it says what the check of a run is for",
+    "Read-only memory is short": "it says what the packing is for; how much is saved: docs/MEASURED.md",
 }
 
 # The files of specs/ whose definitions a theorem ties to another source, so that no wrong reading of the one passes by itself.

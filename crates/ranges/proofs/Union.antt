@@ -16,8 +16,8 @@ use native.Mathlib.Omega.{arith}
 use lib.Dec.{leb}
 use borrow.Author.Tests.{le-leb, lt-leb, leb-true}
 use Rattle.common.proofs.Kit.{by-lt, both-true}
-use Rattle.ranges.specs.Ranges.{member, firstsOf, lastsOf}
-use Rattle.ranges.proofs.Minus.{minus, member-minus}
+use Rattle.ranges.specs.Ranges.{member, firstsOf, lastsOf, minus}
+use Rattle.ranges.proofs.Minus.{member-minus}
 
 abbrev pub lists : List (ℕ × ℕ) → ℕ → Bool
 lists t c = member (firstsOf t) (lastsOf t) c

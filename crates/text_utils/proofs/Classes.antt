@@ -1,8 +1,9 @@
 -- The classes at the characters on which all above them rests.
 --     one-char             being a character, as a range of one
 --     start-low            below 300 a start is a starter
---     endsClear            no table that an end is tested by meets a span
---     end-clear            in such a span every character but 200D is an end: one test, which antt computes
+--     startsClear, endsClear     no table that a start, or an end, is tested by meets a span: one test, which antt computes
+--     start-clear          in such a span above 200D a start is a starter
+--     end-clear            in such a span every character but 200D is an end
 --     start-newline ..     on every accepted page 0A, 20 and 34F are starts
 --     end-newline ..       0A, 20 and 34F are ends
 --     private-use          private use is the three areas of The Unicode Standard, section 23.5
@@ -21,7 +22,7 @@ use Rattle.page.specs.Page.{accepted}
 use Rattle.page.proofs.PageLaws.{facts-of-accepted}
 use Rattle.text_utils.specs.declared.Class.{Class}
 use Rattle.text_utils.specs.declared.Class.the-variants.{Is, Refused}
-use Rattle.text_utils.specs.Tables.{consonantPrecedingRepha, consonantPrefixed, prependedConcatenationMark}
+use Rattle.text_utils.specs.Tables.{graphemeExtend, emojiModifier, spacingMark, consonantPrecedingRepha, consonantPrefixed, prependedConcatenationMark}
 use Rattle.text_utils.specs.Classes.{listed, starter, graphemeExtendNotCgj, spacingMarkPlus, basicTextStart, basicTextEnd, isPrivateUse, classNumbers}
 use Rattle.text_utils.proofs.Rising.{high-extend, high-emoji, high-spacing}
 
@@ -50,6 +51,28 @@ module _ (lo hi : ℕ) where
   abbrev clearOf : List (ℕ × ℕ) → Bool
   clearOf t = clears lo hi (firstsOf t) (lastsOf t)
 
+  none : (u : List (ℕ × ℕ)) → clearOf u ≡ true → (c : ℕ) → lo ≤ c → c ≤ hi → listed u c ≡ false
+  none u e c l h = member-clear lo hi c l h (firstsOf u) (lastsOf u) e
+
+  -- no table that a start is tested by meets it
+  abbrev pub startsClear : Bool
+  startsClear = clearOf graphemeExtend && (clearOf emojiModifier && clearOf spacingMark)
+
+  pub start-clear : startsClear ≡ true → 0x200d < lo → (p : List ℕ) (c : ℕ) → lo ≤ c → c ≤ hi → basicTextStart p c ≡ starter p c
+  unfolding basicTextStart graphemeExtendNotCgj spacingMarkPlus
+  start-clear t b p c l h =
+      let x = both-true (clearOf graphemeExtend) (clearOf emojiModifier && clearOf spacingMark) t in
+      let y = both-true (clearOf emojiModifier) (clearOf spacingMark) (x .1) in
+      simp (
+        ne-eqb c 0x200d (λ e. omega arith),
+        ne-eqb c 0xe33 (λ e. omega arith),
+        ne-eqb c 0xeb3 (λ e. omega arith),
+        none graphemeExtend (x .0) c l h,
+        none emojiModifier (y .0) c l h,
+        none spacingMark (y .1) c l h,
+        and-true,
+      )
+
   -- no table that an end is tested by meets it
   abbrev pub endsClear : Bool
   endsClear = clearOf consonantPrecedingRepha && (clearOf consonantPrefixed && clearOf prependedConcatenationMark)
@@ -59,10 +82,12 @@ module _ (lo hi : ℕ) where
   end-clear t c l h =
       let x = both-true (clearOf consonantPrecedingRepha) (clearOf consonantPrefixed && clearOf prependedConcatenationMark) t in
       let y = both-true (clearOf consonantPrefixed) (clearOf prependedConcatenationMark) (x .1) in
-      simp (none consonantPrecedingRepha (x .0), none consonantPrefixed (y .0), none prependedConcatenationMark (y .1), and-true)
-    where
-      none : (u : List (ℕ × ℕ)) → clearOf u ≡ true → listed u c ≡ false
-      none u e = member-clear lo hi c l h (firstsOf u) (lastsOf u) e
+      simp (
+        none consonantPrecedingRepha (x .0) c l h,
+        none consonantPrefixed (y .0) c l h,
+        none prependedConcatenationMark (y .1) c l h,
+        and-true,
+      )
 
 module _ (p : List ℕ) (a : accepted p ≡ true) where
   pub start-newline : basicTextStart p 0xa ≡ true

@@ -1,6 +1,6 @@
 -- The tables rise: one test that antt computes for each, and the law of any rising list. The Rust's two tables that differ from
 -- Unicode's are Unicode's without the characters that the Rust leaves out.
---     TABLE-rises                        what `in_ranges` asks of the table
+--     TABLE-rises                        the table rises: what `in_ranges` asks, and of its packed list `in_packed`
 --     strictly                           so every table, Unicode's and the Rust's, rises strictly, and its ranges never overlap
 --     no-cgj, no-cgj-rises               Grapheme_Extend without CGJ
 --     as-in-rust, as-in-rust-rises       Prepended_Concatenation_Mark without 890 and 891
@@ -9,9 +9,8 @@ use mathlib.Core.Path.{_≡_, refl}
 use mathlib.Core.Bool.{true}
 use mathlib.Core.List.{List}
 use Prim.Native.Nat.{ℕ}
-use Rattle.ranges.specs.Ranges.{firstsOf, lastsOf, rises, RisesStrictly}
+use Rattle.ranges.specs.Ranges.{firstsOf, lastsOf, minus, rises, RisesStrictly}
 use Rattle.ranges.proofs.Laws.{strictly-rising}
-use Rattle.ranges.proofs.Minus.{minus}
 use Rattle.text_utils.specs.Tables.{graphemeExtend, emojiModifier, spacingMark, spacingMarkExceptions, consonantPrecedingRepha, consonantPrefixed, prependedConcatenationMark, privateUse}
 
 abbrev pub no-cgj : List (ℕ × ℕ)

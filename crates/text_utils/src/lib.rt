@@ -1,57 +1,51 @@
 // The boundary classes: which characters may start and end a text, and private use. Ports `is_basic_text_start`,
 // `is_basic_text_end` and what they call in internals/src/text_utils.rs. The Rust's `matches!` are tables here (tables.rt),
 // searched by halves.
+//     lists.rt    the packed lists, each with what it holds
+//     tables.rt   the numbers of all lists
+mod lists;
 mod tables;
 
 use common::NOT_A_CHAR;
 use common::WRONG_PAGE;
 use page::is_accepted;
 use page::is_nonstarter;
+use ranges::in_packed;
 use ranges::in_ranges;
 use unicode::ZWJ;
 use unicode::is_char;
 ghost use mathlib.Core.Path.{_≡_};
 ghost use mathlib.Core.Bool.{true, not, _&&_};
+ghost use mathlib.Core.List.{List};
+ghost use Prim.Native.Nat.{ℕ};
 ghost use lib.Dec.{eqb};
 ghost use Rattle.page.specs.Page.{accepted};
 ghost use Rattle.text_utils.specs.Tables.{emojiModifier, spacingMark, spacingMarkExceptions, consonantPrecedingRepha, consonantPrefixed, prependedConcatenationMark};
 ghost use Rattle.text_utils.specs.Classes.{listed, starter, graphemeExtendNotCgj, spacingMarkPlus, basicTextStart, lackedByRust, basicTextEnd, isPrivateUse, classNumbers, startClass, endClass};
 
-// "Hundreds of grapheme and spacing-mark range ends in constant arrays": tables.rt, and a function like this for each table.
+// "Hundreds of grapheme and spacing-mark range ends in constant arrays": tables.rt, and a function like this for each list.
 fn is_grapheme_extend_not_cgj(c: u32) -> bool
     ensures { λ r. ⌜ r ≡ graphemeExtendNotCgj c ⌝ }
 {
-    in_ranges(
-        &tables::GRAPHEME_EXTEND_NOT_CGJ_FIRST,
-        &tables::GRAPHEME_EXTEND_NOT_CGJ_LAST,
-        c,
-    )
+    in_packed(&lists::grapheme_extend_not_cgj(), c)
 }
 
 fn is_emoji_modifier(c: u32) -> bool
     ensures { λ r. ⌜ r ≡ listed emojiModifier c ⌝ }
 {
-    in_ranges(
-        &tables::EMOJI_MODIFIER_FIRST,
-        &tables::EMOJI_MODIFIER_LAST,
-        c,
-    )
+    in_packed(&lists::emoji_modifier(), c)
 }
 
 fn is_general_category_spacing_mark(c: u32) -> bool
     ensures { λ r. ⌜ r ≡ listed spacingMark c ⌝ }
 {
-    in_ranges(&tables::SPACING_MARK_FIRST, &tables::SPACING_MARK_LAST, c)
+    in_packed(&lists::spacing_mark(), c)
 }
 
 fn is_spacing_mark_exception(c: u32) -> bool
     ensures { λ r. ⌜ r ≡ listed spacingMarkExceptions c ⌝ }
 {
-    in_ranges(
-        &tables::SPACING_MARK_EXCEPTION_FIRST,
-        &tables::SPACING_MARK_EXCEPTION_LAST,
-        c,
-    )
+    in_packed(&lists::spacing_mark_exception(), c)
 }
 
 fn is_grapheme_cluster_break_spacing_mark_plus(c: u32) -> bool
@@ -73,28 +67,36 @@ fn is_starter(page: &[u32], c: u32) -> bool
     !is_nonstarter(page, c)
 }
 
-// `is_basic_text_start` by the tables. Inner: it asks for an accepted page.
-fn is_start_by_tables(page: &[u32], c: u32) -> bool
-    requires { ⌜ accepted (now page) ≡ true ⌝ }
-    ensures { λ r. ⌜ r ≡ basicTextStart (now (page .entry)) c ⌝ }
+// Whether c, if it is a starter, may start a text: what the lists say of it. Total: any number.
+fn is_start_by_lists(c: u32) -> bool
+    ensures { λ r. ⌜ ((p : List ℕ) → starter p c ≡ true → r ≡ basicTextStart p c) ⌝ }
 {
-    is_starter(page, c)
-        & (c != ZWJ)
+    (c != ZWJ)
         & !is_grapheme_extend_not_cgj(c)
         & !is_emoji_modifier(c)
         & !is_grapheme_cluster_break_spacing_mark_plus(c)
 }
 
-// Whether c may start a text. No table has a character below 300, so these are starts where they are starters. Inner: it
-// asks for an accepted page.
+// Whether c may start a text. No table has a character below 300, nor from 309B to A66E, so these are starts where they are starters.
+// The lists are asked from two places, so that the compiler leaves them a function of their own, and the tests before them put no list on
+// the stack. Inner: it asks for an accepted page.
 pub fn is_basic_text_start(page: &[u32], c: u32) -> bool
     requires { ⌜ accepted (now page) ≡ true ⌝ }
     ensures { λ r. ⌜ r ≡ basicTextStart (now (page .entry)) c ⌝ }
 {
-    if c < 0x300 {
-        return is_starter(page, c);
+    if !is_starter(page, c) {
+        return false;
     }
-    is_start_by_tables(page, c)
+    if c < 0x300 {
+        return true;
+    }
+    if c < 0x309b {
+        return is_start_by_lists(c);
+    }
+    if c < 0xa66f {
+        return true;
+    }
+    is_start_by_lists(c)
 }
 
 fn indic_syllabic_category_consonant_preceding_repha(c: u32) -> bool

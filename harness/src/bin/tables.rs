@@ -9,7 +9,7 @@
 //!     tables reasons SOURCES DATA CRATE  writes specs/Runs.antt of the crate `check_char`
 //!     tables page SOURCES DATA CRATE     writes src/numbers.rt of the crate `page_15`
 //!     tables ranges SOURCES DATA CRATE   writes specs/Unicode.antt of the crate `page_15`
-//!     tables check SOURCES DATA CRATE    compares all with the crates' files, and the sources with each other
+//!     tables check SOURCES DATA CRATE    compares all with the crates' files, and the sources with each other, and tries the packing
 
 use harness::tables::{check, files, page, runs, unicode, ORIGINAL};
 use std::path::Path;

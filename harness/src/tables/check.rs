@@ -1,7 +1,8 @@
-//! The checks: the generated files are those of the repository; the two sources differ as is known and no further; the
-//! lists, as they are read, are what the compiled original answers by.
+//! The checks: the generated files are those of the repository; ranges are packed as they should be; the lists, as they are
+//! stored, and the two sources differ as is known and no further; the lists, as they are read, are what the compiled original
+//! answers by.
 
-use super::{data, files, original, set, Property, Set, PROPERTIES};
+use super::{data, files, original, packed, set, Property, Set, PROPERTIES};
 use crate::page::LAST_CHARACTER;
 use crate::text_utils::is_private_use_area;
 use crate::{is_basic_text_end, is_basic_text_start};
@@ -11,6 +12,9 @@ use unicode_normalization::char::canonical_combining_class;
 
 /// ZWJ, which the original names.
 const ZWJ: u32 = 0x200D;
+
+/// The two sources of a property.
+const SOURCES: [&str; 2] = ["in the original", "in Unicode"];
 
 /// The two characters that the original, and UAX #29, add to SpacingMark.
 const ADDED_TO_SPACING_MARK: [u32; 2] = [0xE33, 0xEB3];
@@ -23,7 +27,10 @@ pub fn check(text: &str, folder: &Path, package: &Path) -> Result<String, String
         same(package, "specs/Tables.antt", &files::specs(folder)?)?,
         same(package, "specs/Breaks.antt", &files::breaks(folder)?)?,
     ];
+    found.push(packed::tried()?);
+    let tables = read(&package.join("src/tables.rt"))?;
     for property in &PROPERTIES {
+        found.push(stored(text, folder, &tables, property)?);
         found.push(differences(text, folder, property)?);
     }
     let classes = Classes::read(text)?;
@@ -34,8 +41,7 @@ pub fn check(text: &str, folder: &Path, package: &Path) -> Result<String, String
 
 /// Whether a file of the crate is the text that is made.
 pub fn same(package: &Path, file: &str, made: &str) -> Result<String, String> {
-    let path = package.join(file);
-    let there = fs::read_to_string(&path).map_err(|error| format!("{}: {error}", path.display()))?;
+    let there = read(&package.join(file))?;
     if there == made {
         return Ok(format!("{file}: as generated"));
     }
@@ -53,12 +59,32 @@ pub fn same(package: &Path, file: &str, made: &str) -> Result<String, String> {
     }
 }
 
+fn read(path: &Path) -> Result<String, String> {
+    fs::read_to_string(path).map_err(|error| format!("{}: {error}", path.display()))
+}
+
+/// The list that `src/tables.rt` stores, read back: it rises, and has the characters of the original's `matches!`, and Unicode's but for
+/// those that the original lacks.
+fn stored(text: &str, folder: &Path, tables: &str, property: &Property) -> Result<String, String> {
+    let name = property.array;
+    let ranges = files::read_back(tables, property)?;
+    if ranges.iter().any(|(first, last)| first > last) || ranges.windows(2).any(|pair| pair[0].1 >= pair[1].0) {
+        return Err(format!("{name}: as stored, its ranges do not rise"));
+    }
+    let stored = set(&ranges);
+    let original = set(&original::ranges(text, property.function)?);
+    let unicode = without(&set(&data::ranges(folder, property)?), property.lacking);
+    equal(name, ["as stored", "in the original"], &stored, &original)?;
+    equal(name, ["as stored", "in Unicode"], &stored, &unicode)?;
+    Ok(format!("{name}: {} characters in {} ranges as stored", stored.len(), ranges.len()))
+}
+
 /// How a property differs between Unicode and the original.
 fn differences(text: &str, folder: &Path, property: &Property) -> Result<String, String> {
     let name = property.definition;
     let unicode = set(&data::ranges(folder, property)?);
     let original = set(&original::ranges(text, property.function)?);
-    equal(name, &original, &without(&unicode, property.lacking))?;
+    equal(name, SOURCES, &original, &without(&unicode, property.lacking))?;
     let lacking = match property.lacking {
         [] => "the same characters in Unicode and in the original".to_owned(),
         lacking => format!("in Unicode and not in the original: {}", list(lacking.iter().copied())),
@@ -95,8 +121,8 @@ impl Classes {
 fn boundaries(folder: &Path, classes: &Classes) -> Result<String, String> {
     let no_starts = without(&data::of_break(folder, &["ZWJ", "Extend", "SpacingMark"])?, &[0x34F]);
     let no_ends = without(&data::of_break(folder, &["ZWJ", "Prepend"])?, &[0x890, 0x891]);
-    equal("no start", &classes.no_starts, &no_starts)?;
-    equal("no end", &classes.no_ends, &no_ends)?;
+    equal("no start", SOURCES, &classes.no_starts, &no_starts)?;
+    equal("no end", SOURCES, &classes.no_ends, &no_ends)?;
     Ok(format!(
         "by the lists {} characters are no start: ZWJ, Extend and SpacingMark without 34f; {} are no end: ZWJ and \
          Prepend without 890 and 891",
@@ -129,13 +155,14 @@ fn without(all: &Set, some: &[u32]) -> Set {
     all.symmetric_difference(&some.iter().copied().collect()).copied().collect()
 }
 
-/// Whether the original's set is the expected one.
-fn equal(name: &str, original: &Set, expected: &Set) -> Result<(), String> {
-    if original == expected {
+/// Whether two sets, which stand at these places, are the same.
+fn equal(name: &str, places: [&str; 2], one: &Set, other: &Set) -> Result<(), String> {
+    if one == other {
         return Ok(());
     }
-    let (more, less) = (original.difference(expected).copied(), expected.difference(original).copied());
-    Err(format!("{name}: an unknown difference: in the original alone {}, in Unicode alone {}", list(more), list(less)))
+    let (more, less) = (list(one.difference(other).copied()), list(other.difference(one).copied()));
+    let [here, there] = places;
+    Err(format!("{name}: an unknown difference: {here} alone {more}, {there} alone {less}"))
 }
 
 fn list(characters: impl IntoIterator<Item = u32>) -> String {

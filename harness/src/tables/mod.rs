@@ -5,6 +5,7 @@ pub mod check;
 pub mod data;
 pub mod files;
 pub mod original;
+pub mod packed;
 pub mod page;
 pub mod runs;
 pub mod unicode;
@@ -17,8 +18,9 @@ pub const ORIGINAL: &str = "internals/src/text_utils.rs";
 
 /// One list, in both sources.
 pub struct Property {
-    /// The arrays in `src/tables.rt`: this name with `_FIRST` and `_LAST`.
+    /// The array in `src/tables.rt`, and how it has the ranges.
     pub array: &'static str,
+    pub form: Form,
     /// The function of the original in whose `matches!` the list stands.
     pub function: &'static str,
     /// The definition in `specs/Tables.antt`, and the comment above it.
@@ -29,6 +31,14 @@ pub struct Property {
     pub lacking: &'static [u32],
 }
 
+/// How `src/tables.rt` has a list.
+pub enum Form {
+    /// A number for each range, in one array.
+    Packed,
+    /// The firsts and the lasts, in two arrays whose names end in `_FIRST` and `_LAST`.
+    Ends,
+}
+
 /// Where Unicode's data has a list.
 pub enum Source {
     /// The ranges of a file with this value.
@@ -37,6 +47,7 @@ pub enum Source {
     SpacingMarkExceptions,
 }
 
+use Form::{Ends, Packed};
 use Source::{File, SpacingMarkExceptions};
 
 const CORE: &str = "DerivedCoreProperties.txt";
@@ -51,6 +62,7 @@ const BREAK: &str = "auxiliary/GraphemeBreakProperty.txt";
 pub const PROPERTIES: [Property; 8] = [
     Property {
         array: "GRAPHEME_EXTEND_NOT_CGJ",
+        form: Packed,
         function: "is_grapheme_extend_not_cgj",
         definition: "graphemeExtend",
         comment: "Grapheme_Extend = Yes: DerivedCoreProperties.txt",
@@ -60,6 +72,7 @@ pub const PROPERTIES: [Property; 8] = [
     },
     Property {
         array: "EMOJI_MODIFIER",
+        form: Packed,
         function: "is_emoji_modifier",
         definition: "emojiModifier",
         comment: "Emoji_Modifier = Yes: emoji-data.txt",
@@ -68,6 +81,7 @@ pub const PROPERTIES: [Property; 8] = [
     },
     Property {
         array: "SPACING_MARK",
+        form: Packed,
         function: "is_general_category_spacing_mark",
         definition: "spacingMark",
         comment: "General_Category = Spacing_Mark: DerivedGeneralCategory.txt, Mc",
@@ -76,6 +90,7 @@ pub const PROPERTIES: [Property; 8] = [
     },
     Property {
         array: "SPACING_MARK_EXCEPTION",
+        form: Packed,
         function: "is_grapheme_cluster_break_spacing_mark_plus",
         definition: "spacingMarkExceptions",
         comment: "the characters of General_Category = Spacing_Mark that UAX #29 excepts from SpacingMark: those that \
@@ -86,6 +101,7 @@ pub const PROPERTIES: [Property; 8] = [
     },
     Property {
         array: "CONSONANT_PRECEDING_REPHA",
+        form: Ends,
         function: "indic_syllabic_category_consonant_preceding_repha",
         definition: "consonantPrecedingRepha",
         comment: "Indic_Syllabic_Category = Consonant_Preceding_Repha: IndicSyllabicCategory.txt",
@@ -94,6 +110,7 @@ pub const PROPERTIES: [Property; 8] = [
     },
     Property {
         array: "CONSONANT_PREFIXED",
+        form: Ends,
         function: "indic_syllabic_category_consonant_prefixed",
         definition: "consonantPrefixed",
         comment: "Indic_Syllabic_Category = Consonant_Prefixed: IndicSyllabicCategory.txt",
@@ -102,6 +119,7 @@ pub const PROPERTIES: [Property; 8] = [
     },
     Property {
         array: "PREPENDED_CONCATENATION_MARK",
+        form: Ends,
         function: "prepended_concatenation_mark",
         definition: "prependedConcatenationMark",
         comment: "Prepended_Concatenation_Mark = Yes: PropList.txt",
@@ -111,6 +129,7 @@ pub const PROPERTIES: [Property; 8] = [
     },
     Property {
         array: "PRIVATE_USE_AREA",
+        form: Ends,
         function: "is_private_use_area",
         definition: "privateUse",
         comment: "General_Category = Private_Use: DerivedGeneralCategory.txt, Co",

@@ -1,6 +1,6 @@
 //! The lists of the original: the ranges of a function's one `matches!`, in its order.
 
-use crate::page::Range;
+use crate::page::{Range, LAST_CHARACTER};
 
 /// Where the function stands in the text.
 pub fn place(text: &str, function: &str) -> Result<usize, String> {
@@ -36,7 +36,10 @@ fn patterns(body: &str) -> Option<String> {
 /// One character, or a range of them.
 fn range(pattern: &str) -> Result<Range, String> {
     let (first, last) = pattern.split_once("..=").unwrap_or((pattern, pattern));
-    Ok((character(first)?, character(last)?))
+    match (character(first)?, character(last)?) {
+        (first, last) if first <= last && last <= LAST_CHARACTER => Ok((first, last)),
+        _ => Err(format!("{pattern:?} is no range of characters")),
+    }
 }
 
 /// A character in the form `'\u{34f}'`.
