@@ -7,7 +7,7 @@
 --     packed-each               the numbers of a table are those of its ranges, one after the other
 --     packed-stands             so a packed list stands for its table: what is known of ranges carries over
 --     of32, packed-of32         its numbers have 32 bits
---     packable-of-rises         a table that rises is packable
+--     packable, packable-of-rises     which tables can be packed: those that rise, for one
 --     rises-packed, member-packed     both, of a list that is the packed one of a table that rises
 use mathlib.Core.Path.{_≡_, refl, sym, ap, ap₂, _∙_}
 use mathlib.Core.Bool.{Bool, true, _&&_, _||_, and-false}
@@ -22,7 +22,7 @@ use borrow.Author.Tests.{le-leb, lt-leb, lt-ltb, le-ltb, leb-true, ltb-true}
 use Rattle.common.proofs.Kit.{by-lt, both, both-true}
 use Rattle.ranges.specs.declared.Range.{Range}
 use Rattle.ranges.specs.Ranges.{member, rises, firstsOf, lastsOf}
-use Rattle.ranges.specs.Packed.{packedRange, firstIn, lastIn, firstsIn, lastsIn, pieces, packed, packable, StandsFor}
+use Rattle.ranges.specs.Packed.{packedRange, firstIn, lastIn, firstsIn, lastsIn, pieces, packed, StandsFor}
 use Rattle.ranges.specs.Inner.{rangeIn}
 
 abbrev first-to-last : ℕ → ℕ → Range
@@ -112,6 +112,11 @@ module _ (q : List ℕ) where
   pieces-of32 zero f l o u h = rw (lt-ltb (packedRange f l) (2 ^ 32) (omega arith))
   pieces-of32 (suc k) f l o u h =
       rw (lt-ltb (packedRange f (f + 2047)) (2 ^ 32) (omega arith)) (pieces-of32 k (f + 2048) l (omega arith) (omega arith) h)
+
+-- each range of a table has a character, and its characters have 21 bits
+abbrev pub packable : List (ℕ × ℕ) → Bool
+packable [] = true
+packable (r ∷ t) = (leb (r .0) (r .1) && ltb (r .1) (2 ^ 21)) && packable t
 
 -- a range is in bounds: it has a character, and its last has 21 bits
 bounds : (r : ℕ × ℕ) (t : List (ℕ × ℕ)) → packable (r ∷ t) ≡ true → ((r .0 ≤ r .1) × (r .1 < 2 ^ 21)) × (packable t ≡ true)

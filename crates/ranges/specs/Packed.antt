@@ -1,9 +1,7 @@
 -- Ranges stored as single numbers of 32 bits: document 02, A.2. A list of such numbers stands for the list of their ranges.
 use mathlib.Core.Path.{_≡_}
-use mathlib.Core.Bool.{Bool, true, _&&_}
 use mathlib.Core.List.{List, [], _∷_, _++_, map}
 use Prim.Native.Nat.{ℕ, zero, suc, _+_, _-_, _*_, _/_, _%_, _^_}
-use lib.Dec.{leb, ltb}
 use Rattle.ranges.specs.Ranges.{member, rises, firstsOf, lastsOf}
 
 -- "store each range as one 32-bit number, the first character in the low 21 bits and the length less one above": the range from f to l
@@ -34,13 +32,8 @@ abbrev pub packed : List (ℕ × ℕ) → List ℕ
 packed [] = []
 packed (r ∷ t) = pieces ((r .1 - r .0) / 2048) (r .0) (r .1) ++ packed t
 
--- each range of a table has a character, and its characters have 21 bits
-abbrev pub packable : List (ℕ × ℕ) → Bool
-packable [] = true
-packable (r ∷ t) = (leb (r .0) (r .1) && ltb (r .1) (2 ^ 21)) && packable t
-
 -- "Each list still rises without overlap, and every class answers as before for each character.": a list of numbers and a table rise
--- alike and have the same members. So do a packable table and its packed list (`packed-stands`, proofs/Packed.antt).
+-- alike and have the same members. So do any table of ranges of characters and its packed list (`packed-stands`, proofs/Packed.antt).
 pub record StandsFor (t : List (ℕ × ℕ)) (q : List ℕ) : Type 0 where
   pub rise-alike : (m : ℕ) → rises m (firstsIn q) (lastsIn q) ≡ rises m (firstsOf t) (lastsOf t)
   pub same-members : (c : ℕ) → member (firstsIn q) (lastsIn q) c ≡ member (firstsOf t) (lastsOf t) c

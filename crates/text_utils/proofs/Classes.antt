@@ -1,9 +1,9 @@
 -- The classes at the characters on which all above them rests.
 --     one-char             being a character, as a range of one
---     start-low            below 300 a start is a starter
 --     startsClear, endsClear     no table that a start, or an end, is tested by meets a span: one test, which antt computes
---     start-clear          in such a span above 200D a start is a starter
+--     start-clear          in such a span a start is a starter, but for the three characters that are told by name
 --     end-clear            in such a span every character but 200D is an end
+--     start-low            below 300 a start is a starter
 --     start-newline ..     on every accepted page 0A, 20 and 34F are starts
 --     end-newline ..       0A, 20 and 34F are ends
 --     private-use          private use is the three areas of The Unicode Standard, section 23.5
@@ -17,14 +17,13 @@ use lib.Dec.{leb, eqb}
 use borrow.Author.Tests.{eq-eqb, ne-eqb, le-leb, lt-leb}
 use Rattle.common.proofs.Kit.{by-lt, both-true}
 use Rattle.ranges.specs.Ranges.{member, firstsOf, lastsOf}
-use Rattle.ranges.proofs.Laws.{member-below, clears, member-clear}
+use Rattle.ranges.proofs.Laws.{clears, member-clear}
 use Rattle.page.specs.Page.{accepted}
 use Rattle.page.proofs.PageLaws.{facts-of-accepted}
 use Rattle.text_utils.specs.declared.Class.{Class}
 use Rattle.text_utils.specs.declared.Class.the-variants.{Is, Refused}
 use Rattle.text_utils.specs.Tables.{graphemeExtend, emojiModifier, spacingMark, consonantPrecedingRepha, consonantPrefixed, prependedConcatenationMark}
 use Rattle.text_utils.specs.Classes.{listed, starter, graphemeExtendNotCgj, spacingMarkPlus, basicTextStart, basicTextEnd, isPrivateUse, classNumbers}
-use Rattle.text_utils.proofs.Rising.{high-extend, high-emoji, high-spacing}
 
 -- being m, as a range of one character
 pub one-char : (m c : ℕ) → leb m c && leb c m ≡ eqb c m
@@ -32,19 +31,6 @@ one-char m c =
     by-lt c m (λ h. simp (lt-leb m c h, ne-eqb c m (λ e. omega arith)))
     (λ g. by-lt m c (λ h. simp (le-leb m c g, lt-leb c m h, ne-eqb c m (λ e. omega arith)))
     (λ h. simp (le-leb m c g, le-leb c m h, eq-eqb c m (omega arith))))
-
-pub start-low : (p : List ℕ) (c : ℕ) → c < 0x300 → basicTextStart p c ≡ starter p c
-unfolding basicTextStart graphemeExtendNotCgj spacingMarkPlus
-start-low p c h =
-    simp (
-      ne-eqb c 0x200d (λ e. omega arith),
-      ne-eqb c 0xe33 (λ e. omega arith),
-      ne-eqb c 0xeb3 (λ e. omega arith),
-      member-below 0x300 _ _ high-extend c h,
-      member-below 0x300 _ _ high-emoji c h,
-      member-below 0x300 _ _ high-spacing c h,
-      and-true,
-    )
 
 module _ (lo hi : ℕ) where
   -- no range of the table meets the span
@@ -58,15 +44,16 @@ module _ (lo hi : ℕ) where
   abbrev pub startsClear : Bool
   startsClear = clearOf graphemeExtend && (clearOf emojiModifier && clearOf spacingMark)
 
-  pub start-clear : startsClear ≡ true → 0x200d < lo → (p : List ℕ) (c : ℕ) → lo ≤ c → c ≤ hi → basicTextStart p c ≡ starter p c
+  pub start-clear : startsClear ≡ true → (p : List ℕ) (c : ℕ) → lo ≤ c → c ≤ hi
+      → (c ≡ 0x200d → ⊥) → (c ≡ 0xe33 → ⊥) → (c ≡ 0xeb3 → ⊥) → basicTextStart p c ≡ starter p c
   unfolding basicTextStart graphemeExtendNotCgj spacingMarkPlus
-  start-clear t b p c l h =
+  start-clear t p c l h zwj am-thai am-lao =
       let x = both-true (clearOf graphemeExtend) (clearOf emojiModifier && clearOf spacingMark) t in
       let y = both-true (clearOf emojiModifier) (clearOf spacingMark) (x .1) in
       simp (
-        ne-eqb c 0x200d (λ e. omega arith),
-        ne-eqb c 0xe33 (λ e. omega arith),
-        ne-eqb c 0xeb3 (λ e. omega arith),
+        ne-eqb c 0x200d zwj,
+        ne-eqb c 0xe33 am-thai,
+        ne-eqb c 0xeb3 am-lao,
         none graphemeExtend (x .0) c l h,
         none emojiModifier (y .0) c l h,
         none spacingMark (y .1) c l h,
@@ -88,6 +75,9 @@ module _ (lo hi : ℕ) where
         none prependedConcatenationMark (y .1) c l h,
         and-true,
       )
+
+pub start-low : (p : List ℕ) (c : ℕ) → c < 0x300 → basicTextStart p c ≡ starter p c
+start-low p c h = start-clear 0 0x2ff refl p c (omega arith) (omega arith) (λ e. omega arith) (λ e. omega arith) (λ e. omega arith)
 
 module _ (p : List ℕ) (a : accepted p ≡ true) where
   pub start-newline : basicTextStart p 0xa ≡ true

@@ -4,7 +4,6 @@
 --     strictly                           so every table, Unicode's and the Rust's, rises strictly, and its ranges never overlap
 --     no-cgj, no-cgj-rises               Grapheme_Extend without CGJ
 --     as-in-rust, as-in-rust-rises       Prepended_Concatenation_Mark without 890 and 891
---     high-TABLE                         the table has no character below 300
 use mathlib.Core.Path.{_≡_, refl}
 use mathlib.Core.Bool.{true}
 use mathlib.Core.List.{List}
@@ -56,18 +55,9 @@ pub private-use-rises : rises 0 (firstsOf privateUse) (lastsOf privateUse) ≡ t
 unfolding rises
 private-use-rises = refl
 
--- no table that a start is tested by has a character below 300
-pub high-extend : rises 0x300 (firstsOf graphemeExtend) (lastsOf graphemeExtend) ≡ true
+grapheme-extend-rises : rises 0 (firstsOf graphemeExtend) (lastsOf graphemeExtend) ≡ true
 unfolding rises
-high-extend = refl
-
-pub high-emoji : rises 0x300 (firstsOf emojiModifier) (lastsOf emojiModifier) ≡ true
-unfolding rises
-high-emoji = refl
-
-pub high-spacing : rises 0x300 (firstsOf spacingMark) (lastsOf spacingMark) ≡ true
-unfolding rises
-high-spacing = refl
+grapheme-extend-rises = refl
 
 -- "In the grapheme and spacing-mark tables each list rises strictly and its ranges never overlap."
 pub strictly :
@@ -83,7 +73,7 @@ pub strictly :
     × RisesStrictly (firstsOf privateUse) (lastsOf privateUse)
 strictly = (
   strictly-rising 0 _ _ no-cgj-rises,
-  strictly-rising 0x300 _ _ high-extend,
+  strictly-rising 0 _ _ grapheme-extend-rises,
   strictly-rising 0 _ _ emoji-modifier-rises,
   strictly-rising 0 _ _ spacing-mark-rises,
   strictly-rising 0 _ _ spacing-mark-exceptions-rises,

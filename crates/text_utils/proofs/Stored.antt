@@ -37,17 +37,21 @@ stored-of t r q e =
     }
 
 -- "store each range as one 32-bit number .. with a list for each category": of Extend
-pub grapheme-extend-not-cgj-stored : (κs : _) (a : _) (r : List ℕ) (s : _) → grapheme-extend-not-cgj.Post κs a r s → Stored (minus 0x34f 0x34f graphemeExtend) r
+pub grapheme-extend-not-cgj-stored : (κs : _) (a : _) (r : List ℕ) (s : _) → grapheme-extend-not-cgj.Post κs a r s
+    → Stored (minus 0x34f 0x34f graphemeExtend) r
 grapheme-extend-not-cgj-stored κs a r s h = stored-of no-cgj no-cgj-rises r h
 
-pub emoji-modifier-stored : (κs : _) (a : _) (r : List ℕ) (s : _) → emoji-modifier.Post κs a r s → Stored emojiModifier r
+pub emoji-modifier-stored : (κs : _) (a : _) (r : List ℕ) (s : _) → emoji-modifier.Post κs a r s
+    → Stored emojiModifier r
 emoji-modifier-stored κs a r s h = stored-of emojiModifier emoji-modifier-rises r h
 
 -- and of SpacingMark
-pub spacing-mark-stored : (κs : _) (a : _) (r : List ℕ) (s : _) → spacing-mark.Post κs a r s → Stored spacingMark r
+pub spacing-mark-stored : (κs : _) (a : _) (r : List ℕ) (s : _) → spacing-mark.Post κs a r s
+    → Stored spacingMark r
 spacing-mark-stored κs a r s h = stored-of spacingMark spacing-mark-rises r h
 
-pub spacing-mark-exception-stored : (κs : _) (a : _) (r : List ℕ) (s : _) → spacing-mark-exception.Post κs a r s → Stored spacingMarkExceptions r
+pub spacing-mark-exception-stored : (κs : _) (a : _) (r : List ℕ) (s : _) → spacing-mark-exception.Post κs a r s
+    → Stored spacingMarkExceptions r
 spacing-mark-exception-stored κs a r s h = stored-of spacingMarkExceptions spacing-mark-exceptions-rises r h
 
 -- "store each range as one 32-bit number": the Rust's lists have 377, 1, 182 and 16 ranges

@@ -1,5 +1,5 @@
 // The boundary classes: which characters may start and end a text, and private use. Ports `is_basic_text_start`,
-// `is_basic_text_end` and what they call in internals/src/text_utils.rs. The Rust's `matches!` are tables here (tables.rt),
+// `is_basic_text_end` and what they call in internals/src/text_utils.rs. The Rust's `matches!` are lists here (tables.rt),
 // searched by halves.
 //     lists.rt    the packed lists, each with what it holds
 //     tables.rt   the numbers of all lists
@@ -147,7 +147,7 @@ fn is_apart_from_end_tables(c: u32) -> bool
 }
 
 // Whether c may end a text. Below 600 no table has a character, nor in the spans of 8E3 on, where only ZWJ is no end: for these no
-// table is copied to the stack. The tables are asked from two places, so that what is before them is compiled into each caller without
+// list is copied to the stack. The lists are asked from two places, so that what is before them is compiled into each caller without
 // them. Total: any number.
 pub fn is_basic_text_end(c: u32) -> bool
     ensures { λ r. ⌜ r ≡ basicTextEnd c ⌝ }

@@ -36,7 +36,7 @@ returns-3 c =
 returns-4 : tie.Need-returns-4
 returns-4 c =
     let s = c .before .before .before in
-    sym (start-clear 0x309b 0xa66e refl (omega arith) _ _ (omega arith) (omega arith)
+    sym (start-clear 0x309b 0xa66e refl _ _ (omega arith) (omega arith) (λ e. omega arith) (λ e. omega arith) (λ e. omega arith)
     ∙ is-a-starter _ _ (s .before .is-starter .ensures) (s .if1 .left))
 
 returns-5 : tie.Need-returns-5
