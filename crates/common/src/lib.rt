@@ -41,6 +41,12 @@ pub const AFTER_NO_NEWLINE: u32 = 12;
 // A flush or a close inside an escape.
 pub const IN_ESCAPE: u32 = 13;
 
+// An odd number of bytes, to be read as units of two.
+pub const ODD_BYTES: u32 = 14;
+
+// A surrogate in no pair; it comes with its place.
+pub const UNPAIRED_SURROGATE: u32 = 15;
+
 // What scan, finish and isolation answer: how many places were written, or the number of a refusal.
 pub enum Answer {
     Written(usize),

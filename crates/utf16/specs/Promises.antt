@@ -1,0 +1,53 @@
+-- What the entries come to, in the request's words, for any order, bytes, characters and places. Document 02, A.3.
+use Prim.Native.Nat.{ℕ, _*_, _%_, _≤_, _<_}
+use mathlib.Core.Path.{_≡_}
+use mathlib.Core.List.{List, [], _∷_}
+use mathlib.Core.Logic.{_↔_}
+use lib.ListN.{length, getD}
+use lib.Seq.{sets}
+use Rattle.common.specs.Answers.{refusalIn, wroteIn}
+use Rattle.unicode.specs.Utf8.{encodeAll, charsOf}
+use Rattle.utf16.specs.declared.ByteOrder.{ByteOrder}
+use Rattle.utf16.specs.Utf16.{Encodes}
+use Rattle.utf16.specs.Reading.{unitsIn, FirstUnpaired}
+use Rattle.utf16.specs.Entries.{decodeAnswer, decodePlaces, encodeAnswer, encodePlaces}
+
+-- each number of a list is a byte, as in a slice of bytes
+abbrev pub Bytes : List ℕ → Type 0
+Bytes bs = (i : ℕ) → getD bs i 0 < 256
+
+-- what reading answers and leaves
+pub record Reads (o : ByteOrder) (bs out : List ℕ) : Type 0 where
+  -- n characters are read exactly where the bytes encode n characters and there is a place for each: nothing well-formed is refused
+  pub reads : (n : ℕ) →
+      (decodeAnswer o bs out ≡ 0 ∷ n ∷ []) ↔ ((cs : List ℕ) × (Encodes o bs cs × ((length cs ≡ n) × (length cs ≤ length out))))
+  -- they stand in the first places, and the others are as they were
+  pub places : (cs : List ℕ) → Encodes o bs cs → length cs ≤ length out → decodePlaces o bs out ≡ sets out 0 cs
+  -- "14 for an odd number of bytes"
+  pub odd : (decodeAnswer o bs out ≡ 14 ∷ []) ↔ (length bs % 2 ≡ 1)
+  -- "15 for an unpaired surrogate, with the first such unit's place counted from 0"
+  pub unpaired : (i : ℕ) → (decodeAnswer o bs out ≡ 15 ∷ i ∷ []) ↔ ((length bs % 2 ≡ 0) × FirstUnpaired (unitsIn o bs) i)
+  -- "8 for lack of room": "Reading needs one place for each character decoded."
+  pub room : (decodeAnswer o bs out ≡ 8 ∷ []) ↔ ((cs : List ℕ) × (Encodes o bs cs × (length out < length cs)))
+  -- "none of them writes anything"
+  pub nothing-written : 0 < refusalIn (decodeAnswer o bs out) → decodePlaces o bs out ≡ out
+
+-- there and back, each call by its answer and the places it leaves
+pub record RoundTrips (o : ByteOrder) : Type 0 where
+  -- "For accepted input with enough room, decoding then encoding returns the bytes"
+  pub decode-encode : (bs out : List ℕ) → Bytes bs → refusalIn (decodeAnswer o bs out) ≡ 0 →
+      let cs = wroteIn (decodeAnswer o bs out) (decodePlaces o bs out) in
+      (buf : List ℕ) → 4 * length cs ≤ length buf →
+      (refusalIn (encodeAnswer o cs buf) ≡ 0) × (wroteIn (encodeAnswer o cs buf) (encodePlaces o cs buf) ≡ bs)
+  -- "and encoding then decoding returns the characters"
+  pub encode-decode : (cs buf : List ℕ) → refusalIn (encodeAnswer o cs buf) ≡ 0 →
+      let bs = wroteIn (encodeAnswer o cs buf) (encodePlaces o cs buf) in
+      (out : List ℕ) → length cs ≤ length out →
+      (refusalIn (decodeAnswer o bs out) ≡ 0) × (wroteIn (decodeAnswer o bs out) (decodePlaces o bs out) ≡ cs)
+
+-- a text of characters is the same read from either kind of file, and so is all that is made of it: what reading UTF-16 leaves is what
+-- decoding UTF-8 gives
+abbrev pub SameText : ByteOrder → List ℕ → Type 0
+SameText o cs =
+    (bs out : List ℕ) → Encodes o bs cs → length cs ≤ length out →
+    wroteIn (decodeAnswer o bs out) (decodePlaces o bs out) ≡ charsOf (encodeAll cs)
