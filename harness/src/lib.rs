@@ -20,6 +20,7 @@ pub mod random;
 pub mod replay;
 pub mod scripts;
 pub mod tables;
+pub mod utf16;
 pub mod words;
 
 // What the original's two roots hand on.

@@ -9,6 +9,7 @@ use crate::page::Page;
 use crate::properties;
 use crate::text_input::scanner::{fill, Scanner};
 use crate::text_output::writer::{Mode, Refusal, Writer, MOST_PLACES};
+use crate::utf16::{self, Order};
 use crate::words::{bytes, bytes_list, characters_list, is_operation, number, numbers, pairs, Fault, MOST_BYTES};
 
 /// An answer line, or the word after `?`.
@@ -52,6 +53,7 @@ impl Oracle {
             ["F", length, pattern, queue @ ..] => filling(length, pattern, queue),
             ["W", call @ ..] => self.writer(call),
             ["A", "check", run @ ..] => Ok(self.checked_run(&numbers(run)?)),
+            ["U16", call @ ..] => utf16_call(call),
             _ => Err("word"),
         }
     }
@@ -266,6 +268,27 @@ fn written(answer: Result<Vec<char>, u32>) -> String {
     match answer {
         Ok(out) => format!("ok n={:x} out={} clean", out.len(), characters_list(&out)),
         Err(refusal) => format!("no {refusal} clean"),
+    }
+}
+
+fn utf16_call(words: &[&str]) -> Answer {
+    match words {
+        ["dec", order, places, text @ ..] => {
+            let order = Order::named(order).ok_or("word")?;
+            Ok(match utf16::decode(order, room(places)?, &bytes(text)?) {
+                Err(utf16::Refusal::Unpaired(place)) => format!("no 15 at={place:x} clean"),
+                Err(utf16::Refusal::Number(number)) => written(Err(number)),
+                Ok(out) => written(Ok(out)),
+            })
+        }
+        ["enc", order, places, text @ ..] => {
+            let order = Order::named(order).ok_or("word")?;
+            Ok(match utf16::encode(order, room(places)?, &numbers(text)?) {
+                Err(number) => format!("no {number} clean"),
+                Ok(out) => format!("ok n={:x} out={} clean", out.len(), bytes_list(&out)),
+            })
+        }
+        _ => Err("word"),
     }
 }
 

@@ -1,13 +1,15 @@
-// The operations `L ..` and `A ..` of the program `replay`: entries on one character, on bytes and on a run of
+// The operations `L ..`, `A ..` and `U16 ..` of the program `replay`: entries on one character, on bytes and on a run of
 // characters.
 //     chars.rt    those on one character
 //     runs.rt     those on bytes and on a run
 //     checks.rt   the check of a run
+//     units.rt    UTF-16
 //     reason.rt   a refused character in an answer
 mod chars;
 mod checks;
 mod reason;
 mod runs;
+mod units;
 
 pub use reason::told;
 use replay_words::answer;
@@ -15,6 +17,7 @@ use replay_words::answer::Why;
 use replay_words::words;
 use replay_words::words::Single;
 pub use runs::outcome;
+use utf16::ByteOrder;
 
 // An operation on the character given, by its number.
 fn on_char(number: usize, given: Single, page: &[u32], out: &mut [u8], at: usize) -> usize {
@@ -29,11 +32,11 @@ fn on_char(number: usize, given: Single, page: &[u32], out: &mut [u8], at: usize
     }
 }
 
-// Answers a line whose first letter is L or A.
+// Answers a line whose first letter is L, A or U.
 pub fn operate(line: &[u8], page: &[u32], out: &mut [u8], at: usize) -> usize {
     let found = words::which(
         line,
-        b"L replace\nL check\nL start\nL end\nL utf8\nL isolate\nA check\n",
+        b"L replace\nL check\nL start\nL end\nL utf8\nL isolate\nA check\nU16 dec le\nU16 dec be\nU16 enc le\nU16 enc be\n",
     );
     let number = found.number;
     let place = found.place;
@@ -42,6 +45,10 @@ pub fn operate(line: &[u8], page: &[u32], out: &mut [u8], at: usize) -> usize {
         4 => runs::utf8(line, place, out, at),
         5 => runs::isolate(line, place, page, out, at),
         6 => checks::check(line, place, page, out, at),
+        7 => units::operate(true, ByteOrder::Little, line, place, out, at),
+        8 => units::operate(true, ByteOrder::Big, line, place, out, at),
+        9 => units::operate(false, ByteOrder::Little, line, place, out, at),
+        10 => units::operate(false, ByteOrder::Big, line, place, out, at),
         _ => answer::refuse(out, at, Why::Word),
     }
 }

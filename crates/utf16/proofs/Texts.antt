@@ -24,9 +24,10 @@ use Rattle.utf16.proofs.Pairs.{neither, high-bounds, low-bounds, high-n
 
 -- ---- one character
 char-plain : (c : ℕ) → isChar c ≡ true → c < 0x10000 → (isHigh c ≡ false) × (isLow c ≡ false)
-char-plain c s h =
-    (by (isHigh c) (λ e. absurd (omega (arith, high-bounds c e, char-gap c s (high-bounds c e .0)))) (λ e. e),
-    by (isLow c) (λ e. absurd (omega (arith, low-bounds c e, char-gap c s (omega (arith, low-bounds c e))))) (λ e. e))
+char-plain c s h = (
+  by (isHigh c) (λ e. absurd (omega (arith, high-bounds c e, char-gap c s (high-bounds c e .0)))) (λ e. e),
+  by (isLow c) (λ e. absurd (omega (arith, low-bounds c e, char-gap c s (omega (arith, low-bounds c e))))) (λ e. e),
+)
 
 plain-char : (u : ℕ) → u < 0x10000 → isHigh u ≡ false → isLow u ≡ false → isChar u ≡ true
 plain-char u h p q =

@@ -1,6 +1,7 @@
-//! The places that an operation lends, beside those that document 01 asks for.
+//! The places that an operation lends, beside those that the documents ask for.
 
 use crate::leaves::valid_prefix;
+use crate::utf16::{decode, Order};
 use crate::words::{bytes, number};
 
 /// What a call is given.
@@ -23,6 +24,11 @@ pub fn lent(operation: &str, before: usize) -> Option<Lent> {
             let length = valid_prefix(&bytes(text).ok()?).chars().count();
             (room, length, before + 3 * length)
         }
+        ["U16", "dec", order, room, text @ ..] => {
+            let length = decode(Order::named(order)?, usize::MAX, &bytes(text).ok()?).ok()?.len();
+            (room, length, length)
+        }
+        ["U16", "enc", _, room, text @ ..] => (room, text.len(), 4 * text.len()),
         _ => return None,
     };
     Some(Lent { length, room: number(room).ok()? as usize, needed })

@@ -13,6 +13,7 @@ pub mod pages;
 pub mod sample;
 pub mod scan;
 pub mod stretches;
+pub mod utf16;
 pub mod utf8;
 pub mod write;
 pub mod write_cases;
@@ -24,7 +25,7 @@ use crate::random::Random;
 /// refusals. `P wrong` is a page that is not accepted. `A check` has its answer behind it: `yes`, or the fault's kind. `long` after
 /// an operation: on `LONG` characters at least it succeeds with exactly the places that it needs, or checks them. `long short`:
 /// with one place less it is refused by 8.
-pub const KINDS: [(&str, &str, &[u32]); 15] = [
+pub const KINDS: [(&str, &str, &[u32]); 17] = [
     ("pages", "P, P wrong", &[]),
     ("utf8", "L utf8", &[]),
     ("every", "P, L check, L end, L replace, L start, A check yes, A check char, A check start, A check end", &[1, 4]),
@@ -38,6 +39,12 @@ pub const KINDS: [(&str, &str, &[u32]); 15] = [
          A check char long, A check newline long",
         &[1, 2],
     ),
+    (
+        "utf16",
+        "U16 dec, U16 dec long, U16 dec long short, U16 enc, U16 enc long, U16 enc long short",
+        &[1, 8, 14, 15],
+    ),
+    ("units", "U16 dec, U16 enc", &[15]),
     (
         "cases",
         "P, P wrong, L check, L end, L isolate, L start, S count, S fin, S new, S scan, F",
@@ -81,11 +88,12 @@ pub const LONG: usize = 1_000;
 pub type Lines = Box<dyn Iterator<Item = String>>;
 
 /// `count` operations of a kind; none if there is no such kind. `cases` and `write-cases` are whole whatever the count, in
-/// `every` the count is a step, one character in so many, in `sample` it is that of the random ones, and `real` has so many of
+/// `every` and `units` the count is a step, one character in so many, in `sample` it is that of the random ones, and `real` has so many of
 /// each of its four kinds. `demand` ends with a whole text, past the count.
 pub fn script(kind: &str, seed: u64, count: usize) -> Option<Lines> {
     match kind {
         "every" => Some(Box::new(every::script(seed, count))),
+        "units" => Some(Box::new(utf16::units(count.max(1)))),
         "stretches" => Some(Box::new(stretches::script(seed, count))),
         "real" => Some(Box::new(with_real_page(seed, count))),
         _ => drawn(kind, seed, count).map(|lines| Box::new(lines.into_iter()) as Lines),
@@ -105,6 +113,7 @@ fn drawn(kind: &str, seed: u64, count: usize) -> Option<Vec<String>> {
         "scan" => scan::script(random, count),
         "fill" => fill::script(random, count),
         "check" => check::script(random, count),
+        "utf16" => utf16::script(random, count),
         "write-cases" => write_cases::script(),
         "write" => write::script(random, count),
         "demand" => demand::script(random, count),
