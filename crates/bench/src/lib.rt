@@ -19,6 +19,10 @@ use text_utils::is_basic_text_end;
 use text_utils::is_basic_text_start;
 use unicode::decode_utf8;
 use unicode::valid_prefix;
+use utf16::ByteOrder;
+use utf16::Decoded;
+use utf16::decode_utf16;
+use utf16::encode_utf16;
 ghost use mathlib.Core.Path.{_≡_};
 ghost use mathlib.Core.Bool.{true};
 ghost use Rattle.page.specs.Page.{accepted};
@@ -174,6 +178,35 @@ pub extern "C" fn bench_prefix(bytes: &[u8]) -> usize {
 pub extern "C" fn bench_decode(bytes: &[u8], out: &mut [u32]) -> usize {
     let p = decode_utf8(bytes, out);
     p.chars
+}
+
+// The byte order that a flag says.
+fn byte_order(big: bool) -> ByteOrder {
+    if big {
+        return ByteOrder::Big;
+    }
+    ByteOrder::Little
+}
+
+// How many places of out UTF-16 is decoded into; 0 where it is refused.
+#[no_mangle]
+pub extern "C" fn bench_decode_utf16(big: bool, bytes: &[u8], out: &mut [u32]) -> usize {
+    let answer = decode_utf16(byte_order(big), bytes, out);
+    match answer {
+        Decoded::Chars(n) => n,
+        Decoded::Unpaired(_) => 0,
+        Decoded::Refused(_) => 0,
+    }
+}
+
+// How many bytes of out characters are encoded into as UTF-16; 0 where they are refused.
+#[no_mangle]
+pub extern "C" fn bench_encode_utf16(big: bool, chars: &[u32], out: &mut [u8]) -> usize {
+    let answer = encode_utf16(byte_order(big), chars, out);
+    match answer {
+        Answer::Written(n) => n,
+        Answer::Refused(_) => 0,
+    }
 }
 
 // How many places of queue a chunk is scanned into, from a record that stands in text; 0 where it is refused.

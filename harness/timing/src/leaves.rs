@@ -13,12 +13,18 @@ pub struct Chunk {
     /// The numbers as bytes, as the exports take them.
     lent: Vec<u8>,
     text: String,
+    /// As UTF-16, little-endian and big-endian.
+    little: Vec<u8>,
+    big: Vec<u8>,
 }
 
 impl Chunk {
     pub fn new(chars: &[char]) -> Self {
         let numbers: Vec<u32> = chars.iter().map(|c| u32::from(*c)).collect();
-        Self { chars: chars.to_vec(), lent: bytes(&numbers), numbers, text: chars.iter().collect() }
+        let text: String = chars.iter().collect();
+        let units = |bytes: fn(u16) -> [u8; 2]| text.encode_utf16().flat_map(bytes).collect();
+        let (little, big) = (units(u16::to_le_bytes), units(u16::to_be_bytes));
+        Self { chars: chars.to_vec(), lent: bytes(&numbers), numbers, text, little, big }
     }
 }
 
@@ -34,6 +40,7 @@ pub struct Lent {
     ours: Vec<u32>,
     our_bytes: Vec<u8>,
     rust: Vec<u32>,
+    rust_bytes: Vec<u8>,
     scanner: Scanner,
     queue: VecDeque<char>,
     plain: Timed<Counter>,
@@ -50,6 +57,7 @@ impl Lent {
             ours: vec![0; places],
             our_bytes: vec![0; 4 * places],
             rust: vec![0; places],
+            rust_bytes: vec![0; 4 * most],
             scanner: Scanner::default(),
             queue: VecDeque::new(),
             plain: Timed::open(false),
@@ -135,6 +143,38 @@ pub const DECODE: Leaf = Leaf {
     rust: |lent, chunk| rust::decode(chunk.text.as_bytes(), &mut lent.rust),
     same: |lent, _, count| lent.ours[..count] == lent.rust[..count],
 };
+
+/// UTF-16, read and written, in both orders.
+pub const UTF16: [Leaf; 4] = [
+    Leaf {
+        name: "decode_utf16 le",
+        ours: |lent, chunk| ours::decode_utf16(false, &chunk.little, &mut lent.ours),
+        rust: |lent, chunk| rust::decode_utf16(false, &chunk.little, &mut lent.rust),
+        same: DECODE.same,
+    },
+    Leaf {
+        name: "decode_utf16 be",
+        ours: |lent, chunk| ours::decode_utf16(true, &chunk.big, &mut lent.ours),
+        rust: |lent, chunk| rust::decode_utf16(true, &chunk.big, &mut lent.rust),
+        same: DECODE.same,
+    },
+    Leaf {
+        name: "encode_utf16 le",
+        ours: |lent, chunk| ours::encode_utf16(false, &chunk.numbers, &mut lent.our_bytes),
+        rust: |lent, chunk| rust::encode_utf16(false, &chunk.text, &mut lent.rust_bytes),
+        same: same_bytes,
+    },
+    Leaf {
+        name: "encode_utf16 be",
+        ours: |lent, chunk| ours::encode_utf16(true, &chunk.numbers, &mut lent.our_bytes),
+        rust: |lent, chunk| rust::encode_utf16(true, &chunk.text, &mut lent.rust_bytes),
+        same: same_bytes,
+    },
+];
+
+fn same_bytes(lent: &mut Lent, _: &Chunk, count: usize) -> bool {
+    lent.our_bytes[..count] == lent.rust_bytes[..count]
+}
 
 /// The scanner, from a record as after one character, without options.
 pub const SCAN: Leaf = Leaf {

@@ -22,7 +22,7 @@ mod rust;
 
 use clock::{least, Times};
 use inputs::{keeping, writable, INPUTS};
-use leaves::{Chunk, Leaf, Lent, CHECK_RUN, EXPORTED_SCAN, ISOLATE, LEAVES, PAGE, SCAN, WRITES};
+use leaves::{Chunk, Leaf, Lent, CHECK_RUN, EXPORTED_SCAN, ISOLATE, LEAVES, PAGE, SCAN, UTF16, WRITES};
 use std::process::ExitCode;
 
 /// So many characters are timed at once, as one chunk or as several.
@@ -65,7 +65,7 @@ fn every_character(lent: &mut Lent) -> usize {
     let mut count = 0;
     for c in '\0'..=char::MAX {
         let chunk = &mut Chunk::new(&[c]);
-        for leaf in LEAVES.iter().chain([&CHECK_RUN, &SCAN, &EXPORTED_SCAN]).chain(&WRITES) {
+        for leaf in LEAVES.iter().chain(&UTF16).chain([&CHECK_RUN, &SCAN, &EXPORTED_SCAN]).chain(&WRITES) {
             leaf.agree(lent, chunk);
         }
         count += 1;
@@ -76,7 +76,7 @@ fn every_character(lent: &mut Lent) -> usize {
 /// ns per character.
 fn of_characters(lent: &mut Lent) {
     heading(&format!("ns per character, chunks of {}", grouped(CHUNK)));
-    for leaf in LEAVES.iter().chain([&SCAN, &EXPORTED_SCAN]) {
+    for leaf in LEAVES.iter().chain(&UTF16).chain([&SCAN, &EXPORTED_SCAN]) {
         for input in &INPUTS {
             let text = (input.text)(CHUNK * CHUNKS);
             row(leaf.name, input.name, per_character(leaf, lent, &text, CHUNK));

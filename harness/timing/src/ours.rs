@@ -62,6 +62,11 @@ mod linked {
         pub fn bench_prefix(bytes: *const u8, count: usize) -> usize;
         /// Writes the characters of that prefix to the places from `out` on, which nothing else has: how many.
         pub fn bench_decode(bytes: *const u8, count: usize, out: *mut u32, room: usize) -> usize;
+        /// Writes the characters of UTF-16, big-endian or little-endian, to the places from `out` on, which nothing else has: how
+        /// many, or 0 for a refusal.
+        pub fn bench_decode_utf16(big: bool, bytes: *const u8, count: usize, out: *mut u32, room: usize) -> usize;
+        /// Writes characters as UTF-16 to the bytes from `out` on, which nothing else has: how many, or 0 for a refusal.
+        pub fn bench_encode_utf16(big: bool, chars: *const u32, count: usize, out: *mut u8, room: usize) -> usize;
     }
 }
 
@@ -129,4 +134,12 @@ pub fn prefix(bytes: &[u8]) -> usize {
 
 pub fn decode(bytes: &[u8], out: &mut [u32]) -> usize {
     unsafe { linked::bench_decode(bytes.as_ptr(), bytes.len(), out.as_mut_ptr(), out.len()) }
+}
+
+pub fn decode_utf16(big: bool, bytes: &[u8], out: &mut [u32]) -> usize {
+    unsafe { linked::bench_decode_utf16(big, bytes.as_ptr(), bytes.len(), out.as_mut_ptr(), out.len()) }
+}
+
+pub fn encode_utf16(big: bool, chars: &[u32], out: &mut [u8]) -> usize {
+    unsafe { linked::bench_encode_utf16(big, chars.as_ptr(), chars.len(), out.as_mut_ptr(), out.len()) }
 }

@@ -75,3 +75,43 @@ pub fn decode(bytes: &[u8], out: &mut [u32]) -> usize {
     }
     count
 }
+
+/// How many characters are decoded, as many as there are places; 0 at an unpaired surrogate.
+pub fn decode_utf16(big: bool, bytes: &[u8], out: &mut [u32]) -> usize {
+    let pairs = bytes.chunks_exact(2).map(|pair| [pair[0], pair[1]]);
+    if big {
+        decode_units(pairs.map(u16::from_be_bytes), out)
+    } else {
+        decode_units(pairs.map(u16::from_le_bytes), out)
+    }
+}
+
+fn decode_units(units: impl Iterator<Item = u16>, out: &mut [u32]) -> usize {
+    let mut count = 0;
+    for (place, decoded) in out.iter_mut().zip(char::decode_utf16(units)) {
+        let Ok(c) = decoded else {
+            return 0;
+        };
+        *place = u32::from(c);
+        count += 1;
+    }
+    count
+}
+
+/// By `str::encode_utf16`, which is faster than that of each character.
+pub fn encode_utf16(big: bool, text: &str, out: &mut [u8]) -> usize {
+    if big {
+        store_units(text.encode_utf16().map(u16::to_be_bytes), out)
+    } else {
+        store_units(text.encode_utf16().map(u16::to_le_bytes), out)
+    }
+}
+
+fn store_units(units: impl Iterator<Item = [u8; 2]>, out: &mut [u8]) -> usize {
+    let mut count = 0;
+    for (places, bytes) in out.chunks_exact_mut(2).zip(units) {
+        places.copy_from_slice(&bytes);
+        count += 2;
+    }
+    count
+}
