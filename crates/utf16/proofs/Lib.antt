@@ -5,6 +5,7 @@ pub mod Units
 pub mod Rows
 pub mod Pairs
 pub mod Texts
+pub mod Stretches
 pub mod Places
 pub mod Laws
 pub mod Answers

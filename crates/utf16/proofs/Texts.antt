@@ -35,7 +35,7 @@ plain-char u h p q =
     (λ a. by-lt 0xDFFF u (λ b. char-high u (omega arith) (omega arith))
     (λ b. by-lt 0xDBFF u (λ d. never (sym q ∙ low-of u (omega arith) b)) (λ d. never (sym p ∙ high-of u a d))))
 
-char-itself : (u after : ℕ) → isHigh u ≡ false → charOf u after ≡ u
+pub char-itself : (u after : ℕ) → isHigh u ≡ false → charOf u after ≡ u
 unfolding charOf
 char-itself u after p = rw p
 

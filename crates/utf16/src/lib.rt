@@ -8,15 +8,15 @@ use unicode::are_chars;
 ghost use mathlib.Core.Path.{_≡_};
 ghost use mathlib.Core.Bool.{true, _||_};
 ghost use mathlib.Core.List.{[], _∷_};
-ghost use Prim.Native.Nat.{_+_, _*_, _/_, _≤_, _<_};
-ghost use lib.ListN.{length, getD};
+ghost use Prim.Native.Nat.{_+_, _-_, _*_, _/_, _≤_, _<_};
+ghost use lib.ListN.{length, getD, take, drop};
 ghost use lib.Seq.{sets};
 ghost use Rattle.common.specs.Answers.{writtenNumbers};
 ghost use Rattle.unicode.specs.Chars.{areChars};
 ghost use Rattle.utf16.specs.Utf16.{unitsOf, firstByte, secondByte, serialised, utf16Of};
 ghost use Rattle.utf16.specs.Reading.{unitOf, unitsIn, isHigh, isLow, charOf, charsIn};
 ghost use Rattle.utf16.specs.Entries.{decodedNumbers, decodeAnswer, decodePlaces, encodeAnswer, encodePlaces};
-ghost use Rattle.utf16.specs.Inner.{foundIn};
+ghost use Rattle.utf16.specs.Inner.{foundIn, PlainBytes, PlainTo};
 
 // Which byte of a unit stands first: the low one, or the high one. "one little-endian and one big-endian"
 pub enum ByteOrder {
@@ -88,7 +88,51 @@ enum Found {
     Unpaired(usize),
 }
 
-// Looks over the units, a pair at once. Total.
+// Whether none of so many bytes from `at` on is one of D8..DF: every surrogate has one. The loop has no early exit, so that it can be
+// vectorised.
+fn is_plain_block(bytes: &[u8], at: usize, size: usize) -> bool
+    requires { ⌜ at + size ≤ length (now bytes) ⌝ }
+    ensures { λ r. ⌜ (r ≡ true → PlainBytes (now (bytes .entry)) at (at + size)) ⌝ }
+{
+    let mut good = true;
+    let mut tested = 0;
+    while tested < size {
+        let b = bytes[at + tested];
+        good = good & !((0xd8 <= b) & (b <= 0xdf));
+        tested += 1;
+    }
+    good
+}
+
+// A place up to which no unit from `from` on is a surrogate, in whole blocks of 16. The block's bytes are a number here, by which the
+// loop of `is_plain_block` is unrolled.
+fn plain_end(bytes: &[u8], from: usize) -> usize
+    requires { ⌜ from ≤ length (now bytes) / 2 ⌝ }
+    ensures { λ r. ⌜ PlainTo (now (bytes .entry)) from r ⌝ }
+{
+    let n = bytes.len() / 2;
+    let mut i = from;
+    while 16 <= n - i {
+        if !is_plain_block(bytes, 2 * i, 32) {
+            return i;
+        }
+        i += 16;
+    }
+    i
+}
+
+// Where the units that go one by one end, from place i on: 16 of them, or what is left.
+fn steps_end(i: usize, n: usize) -> usize
+    requires { ⌜ i ≤ n ⌝ }
+    ensures { λ r. ⌜ (r ≤ n) × (i < n → i < r) ⌝ }
+{
+    if n - i < 16 {
+        return n;
+    }
+    i + 16
+}
+
+// Looks over the units: a stretch without surrogates at once, then some one by one, a pair at once. Total.
 fn look_over(order: ByteOrder, bytes: &[u8]) -> Found
     ensures { λ r. ⌜ r ≡ foundIn (unitsIn order (now (bytes .entry))) ⌝ }
 {
@@ -96,15 +140,19 @@ fn look_over(order: ByteOrder, bytes: &[u8]) -> Found
     let mut pairs = 0;
     let mut i = 0;
     while i < n {
-        let u = unit_at(order, bytes, i);
-        if is_surrogate(u) {
-            if !(is_high(u) & is_low(unit_or_none(order, bytes, i + 1))) {
-                return Found::Unpaired(i);
+        i = plain_end(bytes, i);
+        let stop = steps_end(i, n);
+        while i < stop {
+            let u = unit_at(order, bytes, i);
+            if is_surrogate(u) {
+                if !(is_high(u) & is_low(unit_or_none(order, bytes, i + 1))) {
+                    return Found::Unpaired(i);
+                }
+                pairs += 1;
+                i += 2;
+            } else {
+                i += 1;
             }
-            pairs += 1;
-            i += 2;
-        } else {
-            i += 1;
         }
     }
     Found::Paired(pairs)
@@ -121,7 +169,20 @@ fn char_at(order: ByteOrder, bytes: &[u8], u: u32, i: usize) -> u32
     u
 }
 
-// Stores the characters of all units in the first places.
+// Stores the units from `from` up to `end` as they are, from place k on.
+fn widen(order: ByteOrder, bytes: &[u8], from: usize, end: usize, out: &mut [u32], k: usize)
+    requires { ⌜ (from ≤ end) × (end ≤ length (now bytes) / 2) ⌝ }
+    requires { ⌜ k + (end - from) ≤ length (now out) ⌝ }
+    ensures { λ r. ⌜ now (out .exit) ≡ sets (now (out .entry)) k (take (end - from) (drop from (unitsIn order (now (bytes .entry))))) ⌝ }
+{
+    let mut j = 0;
+    while j < end - from {
+        out[k + j] = unit_at(order, bytes, from + j);
+        j += 1;
+    }
+}
+
+// Stores the characters of all units in the first places: those of a stretch without surrogates at once, then some one by one.
 fn store(order: ByteOrder, bytes: &[u8], out: &mut [u32])
     requires { ⌜ length (charsIn (unitsIn order (now bytes))) ≤ length (now out) ⌝ }
     ensures { λ r. ⌜ now (out .exit) ≡ sets (now (out .entry)) 0 (charsIn (unitsIn order (now (bytes .entry)))) ⌝ }
@@ -130,11 +191,18 @@ fn store(order: ByteOrder, bytes: &[u8], out: &mut [u32])
     let mut k = 0;
     let mut i = 0;
     while i < n {
-        let u = unit_at(order, bytes, i);
-        i += 1;
-        if !is_low(u) {
-            out[k] = char_at(order, bytes, u, i);
-            k += 1;
+        let end = plain_end(bytes, i);
+        widen(order, bytes, i, end, out, k);
+        k = k + (end - i);
+        i = end;
+        let stop = steps_end(i, n);
+        while i < stop {
+            let u = unit_at(order, bytes, i);
+            i += 1;
+            if !is_low(u) {
+                out[k] = char_at(order, bytes, u, i);
+                k += 1;
+            }
         }
     }
 }

@@ -1,6 +1,6 @@
 -- `utf16::look_over` meets its contract. The loop's invariant: what is left, read behind no unit, leads to the unpaired units and the
--- pairs of the whole.
-use Prim.Native.Nat.{ℕ, suc, _+_, _-_, _/_, _≤_, _<_}
+-- pairs of the whole. A stretch is one unit after the other; the inner loop keeps the same.
+use Prim.Native.Nat.{ℕ, zero, suc, _+_, _-_, _/_, _≤_, _<_}
 use mathlib.Core.Bool.{true, false, _&&_, _||_}
 use mathlib.Core.List.{List, [], _∷_}
 use mathlib.Core.Path.{_≡_, refl, sym, ap, _∙_}
@@ -15,8 +15,8 @@ use Rattle.common.proofs.Kit.{never, by, by-lt, both-true}
 use Rattle.utf16.specs.declared.ByteOrder.{ByteOrder}
 use Rattle.utf16.specs.declared.Found.the-variants.{Paired, Unpaired}
 use Rattle.utf16.specs.Reading.{unitsIn, isHigh, isLow, next, unpairedFrom, unpairedIn}
-use Rattle.utf16.specs.Inner.{lows, foundIn}
-use Rattle.utf16.proofs.Units.{units-inside, units-past}
+use Rattle.utf16.specs.Inner.{lows, foundIn, PlainTo}
+use Rattle.utf16.proofs.Units.{length-units, units-inside, units-past}
 use Rattle.utf16.proofs.Pairs.{neither, plain-turn, pair-turn, unpaired-turn, high-bounds, low-bounds}
 use Rattle.utf16.proofs.look_over.Statement.{statement}
 use Rattle.utf16.proofs.look_over.Tie as tie
@@ -87,50 +87,92 @@ module _ (us : List ℕ) (pairs i : ℕ) (g : Looking us pairs i) where
       let c : pairs ≡ lows us = omega (arith, rw (e, drop-length) at (g .count)) in
       rw (l, c)
 
+-- a stretch
+passed : (us : List ℕ) (pairs i m : ℕ) → Looking us pairs i → i + m ≤ length us →
+    ((x : ℕ) → i ≤ x → x < i + m → isHigh (getD us x 0) || isLow (getD us x 0) ≡ false) → Looking us pairs (i + m)
+passed us pairs i zero g h p = rw add-zero g
+passed us pairs i (suc m) g h p =
+    let e : i + suc m ≡ i + m + 1 = omega arith in
+    rw e
+    (plain us pairs (i + m) (passed us pairs i m g (omega arith) (λ x l k. p x l (omega arith))) (omega arith) (p (i + m) (omega arith) (omega arith)))
+
+stretch : (o : ByteOrder) (bs : List ℕ) (pairs i t : ℕ) → Looking (unitsIn o bs) pairs i → PlainTo bs i t → Looking (unitsIn o bs) pairs t
+stretch o bs pairs i t g p =
+    let e : i + (t - i) ≡ t = omega (arith, p .begun) in
+    rw e at
+    (passed (unitsIn o bs) pairs i (t - i) g (omega (arith, e, p .inside, length-units o bs)) (λ x l k. p .each o x l (omega (arith, e))))
+
+abbrev Inv-loop2 : tie.InvT-loop2
+Inv-loop2 order bytes n pairs₀ i₀ stop pairs i = Looking (unitsIn order bytes) pairs i × (i₀ ≤ i)
+
+abbrev μ-loop2 : tie.MeasureT-loop2
+μ-loop2 order bytes n pairs₀ i₀ stop pairs i = stop - i
+
 abbrev Inv-loop : tie.InvT-loop
 Inv-loop order bytes n pairs₀ i₀ pairs i = Looking (unitsIn order bytes) pairs i
 
 abbrev μ-loop : tie.MeasureT-loop
 μ-loop order bytes n pairs₀ i₀ pairs i = n - i
 
-returns : tie.Need-returns Inv-loop μ-loop
+loop2-holds : tie.Need-loop2-holds Inv-loop2 μ-loop2 Inv-loop μ-loop
+loop2-holds c =
+    (stretch _ _ _ _ _ (c .before .before .before .loop .inv) (c .before .plain-end .ensures), omega arith)
+
+loop-less : tie.Need-loop-less Inv-loop2 μ-loop2 Inv-loop μ-loop
+loop-less c =
+    let x = c .before in
+    let a = x .before .before .before .before .before .before .args in
+    let end = x .before .before .plain-end in
+    by-lt (end .result) (length (a .bytes .now) / 2)
+    (λ h. omega (arith, x .before .steps-end .ensures .1 h, end .ensures .begun, c .loop2-test .left))
+    (λ h. omega (arith, x .loop2 .inv .1, x .before .before .before .loop-test .taken))
+
+loop-again : tie.Need-loop-again Inv-loop2 μ-loop2 Inv-loop μ-loop
+loop-again c = c .before .loop2 .inv .0
+
+unit-at-requires : tie.Need-unit-at-requires Inv-loop2 μ-loop2 Inv-loop μ-loop
+unit-at-requires c κs = omega (arith, c .loop2-test .taken, c .before .before .steps-end .ensures .0)
+
+returns : tie.Need-returns Inv-loop2 μ-loop2 Inv-loop μ-loop
 returns c =
     let after = c .before .before in
     let high = after .before in
     let unit = high .before .before .before in
-    let l = unit .before in
-    let a = l .before .before .before .args in
-    found _ _ _ (l .before .loop .inv) (units-inside (a .order) (a .bytes .now) _ (l .loop-test .taken))
+    let x = unit .before .before in
+    let a = x .before .before .before .before .before .before .args in
+    found _ _ _ (x .loop2 .inv .0) (units-inside (a .order) (a .bytes .now) _ (omega (arith, unit .before .loop2-test .taken, x .before .steps-end .ensures .0)))
     (rw (← unit .unit-at .ensures .0, ← high .before .before .is-surrogate .ensures) (high .before .if1 .taken))
     (rw (← unit .unit-at .ensures .0, ← after .unit-or-none .ensures .0, ← high .is-high .ensures, ← c .before .is-low .ensures) (not-true _ (c .if2 .taken)))
 
-add-pairs : tie.Need-add-pairs Inv-loop μ-loop
-add-pairs c = omega (arith, c .before .before .before .before .before .before .before .before .loop .inv .few)
+add-pairs : tie.Need-add-pairs Inv-loop2 μ-loop2 Inv-loop μ-loop
+add-pairs c =
+    let l = c .before .before .before .before .before .before .before in
+    omega (arith, l .before .loop2 .inv .0 .few, l .loop2-test .taken, l .before .before .steps-end .ensures .0)
 
-add-i : tie.Need-add-i Inv-loop μ-loop
-add-i c = search needs
-
-loop-less : tie.Need-loop-less Inv-loop μ-loop
-loop-less c = search needs
-
-loop-again : tie.Need-loop-again Inv-loop μ-loop
-loop-again c =
+loop2-again : tie.Need-loop2-again Inv-loop2 μ-loop2 Inv-loop μ-loop
+loop2-again c =
     let after = c .before .before in
     let high = after .before in
     let unit = high .before .before .before in
     let l = unit .before in
-    let a = l .before .before .before .args in
-    pair _ _ _ (l .before .loop .inv) (units-inside (a .order) (a .bytes .now) _ (l .loop-test .taken))
-    (rw (← unit .unit-at .ensures .0, ← after .unit-or-none .ensures .0, ← high .is-high .ensures, ← c .before .is-low .ensures) (not-false _ (c .if2 .left)))
+    let x = l .before in
+    let a = x .before .before .before .before .before .before .args in
+    (pair _ _ _ (x .loop2 .inv .0)
+    (units-inside (a .order) (a .bytes .now) _ (omega (arith, l .loop2-test .taken, x .before .steps-end .ensures .0)))
+    (rw (← unit .unit-at .ensures .0, ← after .unit-or-none .ensures .0, ← high .is-high .ensures, ← c .before .is-low .ensures) (not-false _ (c .if2 .left))),
+    omega (arith, x .loop2 .inv .1))
 
-loop-again-2 : tie.Need-loop-again-2 Inv-loop μ-loop
-loop-again-2 c =
+loop2-again-2 : tie.Need-loop2-again-2 Inv-loop2 μ-loop2 Inv-loop μ-loop
+loop2-again-2 c =
     let l = c .before .before .before in
-    let a = l .before .before .before .args in
-    plain _ _ _ (l .before .loop .inv) (units-inside (a .order) (a .bytes .now) _ (l .loop-test .taken))
-    (rw (c .before .before .unit-at .ensures .0) at (sym (c .before .is-surrogate .ensures) ∙ c .if1 .left))
+    let x = l .before in
+    let a = x .before .before .before .before .before .before .args in
+    (plain _ _ _ (x .loop2 .inv .0)
+    (units-inside (a .order) (a .bytes .now) _ (omega (arith, l .loop2-test .taken, x .before .steps-end .ensures .0)))
+    (rw (c .before .before .unit-at .ensures .0) at (sym (c .before .is-surrogate .ensures) ∙ c .if1 .left)),
+    omega (arith, x .loop2 .inv .1))
 
-returns-2 : tie.Need-returns-2 Inv-loop μ-loop
+returns-2 : tie.Need-returns-2 Inv-loop2 μ-loop2 Inv-loop μ-loop
 returns-2 c =
     let a = c .before .before .before .args in
     ended _ _ _ (c .before .loop .inv) (units-past (a .order) (a .bytes .now) _ (c .loop-test .left))
@@ -139,10 +181,17 @@ pub look-over-spec : {M : Type 1} → statement M
 look-over-spec =
     tie.close
     (tie.spec
+    Inv-loop2
+    μ-loop2
     Inv-loop
     μ-loop
     (λ c. begin _)
     (λ c κs. search needs)
+    (λ c κs. c .plain-end .ensures .inside)
+    loop2-holds
+    loop-less
+    loop-again
+    unit-at-requires
     (λ c κs. search needs)
     (λ c κs. search needs)
     (λ c. search needs)
@@ -150,10 +199,10 @@ look-over-spec =
     (λ c κs. search needs)
     returns
     add-pairs
-    add-i
-    loop-less
-    loop-again
     (λ c. search needs)
     (λ c. search needs)
-    loop-again-2
+    loop2-again
+    (λ c. search needs)
+    (λ c. search needs)
+    loop2-again-2
     returns-2)
