@@ -33,7 +33,7 @@ DOCUMENT_02 = os.environ.get("DOCUMENT_02", os.path.join(SHARED, "02-change-requ
 RUST = os.environ.get("BASIC_TEXT_SRC", os.path.join(SHARED, "src"))
 PROOFS = os.path.join(ROOT, "docs", "PROOFS.md")
 REQUESTS = os.path.join(ROOT, "docs", "REQUESTS.md")
-OTHERS = ("RFC 3629", "UAX #29", "UAX #44")
+OTHERS = ("RFC 3629", "UAX #29", "UAX #44", "Unicode Standard, D")
 
 # The sentences that owe no proof, by their first words, and why.
 NO_PROOF = {
@@ -58,6 +58,7 @@ NO_PROOF = {
     "Other cases and published": "run and compared: harness/compare",
     "Forty brokers now": "it says what the check of a run is for",
     "Read-only memory is short": "it says what the packing is for; how much is saved: docs/MEASURED.md",
+    "Two administration systems": "it says what UTF-16 is for; the two orders are those of ByteOrder (utf16)",
 }
 
 # The files of specs/ whose definitions a theorem ties to another source, so that no wrong reading of the one passes by itself.

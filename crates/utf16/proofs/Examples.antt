@@ -20,7 +20,7 @@ use Rattle.utf16.specs.Reading.{isHigh, isLow, unpaired, unpairedIn, cha
 use Rattle.utf16.specs.Entries.{decodedNumbers, decodeAnswer, decodePlaces, encodeAnswer, encodePlaces}
 
 -- ---- "The Unicode Standard defines both forms."
--- D91: "the code point sequence <004D, 0430, 4E8C, 10302> is represented as <004D 0430 4E8C D800 DF02>"
+-- Unicode Standard, D91: "the code point sequence <004D, 0430, 4E8C, 10302> is represented as <004D 0430 4E8C D800 DF02>"
 abbrev text : List ℕ
 text = 0x4D ∷ 0x430 ∷ 0x4E8C ∷ 0x10302 ∷ []
 
@@ -28,7 +28,8 @@ pub in-units : unitsAll text ≡ 0x4D ∷ 0x430 ∷ 0x4E8C ∷ 0xD800 ∷ 0xDF02
 unfolding unitsOf
 in-units = refl
 
--- D96: "is serialized as <00 4D 04 30 4E 8C D8 00 DF 02>"; D97: "<4D 00 30 04 8C 4E 00 D8 02 DF>"
+-- Unicode Standard, D96: "is serialized as <00 4D 04 30 4E 8C D8 00 DF 02>"
+-- Unicode Standard, D97: "is serialized as <4D 00 30 04 8C 4E 00 D8 02 DF>"
 pub in-bytes :
     (utf16Of Big text ≡ 0x00 ∷ 0x4D ∷ 0x04 ∷ 0x30 ∷ 0x4E ∷ 0x8C ∷ 0xD8 ∷ 0x00 ∷ 0xDF ∷ 0x02 ∷ [])
     × (utf16Of Little text ≡ 0x4D ∷ 0x00 ∷ 0x30 ∷ 0x04 ∷ 0x8C ∷ 0x4E ∷ 0x00 ∷ 0xD8 ∷ 0x02 ∷ 0xDF ∷ [])

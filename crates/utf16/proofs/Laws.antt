@@ -189,6 +189,7 @@ module _ (o : ByteOrder) where
     accepted-bytes : refusalIn (decodeAnswer o bs out) ≡ 0 → Encodes o bs chars
     accepted-bytes = by-way (way bs out)
 
+  -- "The facts hold for both orders from one proof with the order as a parameter."
   pub round-trips : RoundTrips o
   round-trips =
       record {

@@ -32,7 +32,8 @@ pub record Reads (o : ByteOrder) (bs out : List ℕ) : Type 0 where
   -- "none of them writes anything"
   pub nothing-written : 0 < refusalIn (decodeAnswer o bs out) → decodePlaces o bs out ≡ out
 
--- there and back, each call by its answer and the places it leaves
+-- there and back, each call by its answer and the places it leaves. "The facts hold for both orders from one proof with the order as a
+-- parameter."
 pub record RoundTrips (o : ByteOrder) : Type 0 where
   -- "For accepted input with enough room, decoding then encoding returns the bytes"
   pub decode-encode : (bs out : List ℕ) → Bytes bs → refusalIn (decodeAnswer o bs out) ≡ 0 →

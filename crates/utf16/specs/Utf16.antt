@@ -24,7 +24,9 @@ unitsAll [] = []
 unitsAll (c ∷ cs) = unitsOf c ++ unitsAll cs
 
 -- ---- the encoding schemes
--- a unit's byte that stands first, and the one that stands second: D96, "in big-endian format"; D97, "in little-endian format"
+-- a unit's byte that stands first, and the one that stands second
+-- Unicode Standard, D96: "in big-endian format"
+-- Unicode Standard, D97: "in little-endian format"
 abbrev pub firstByte : ByteOrder → ℕ → ℕ
 firstByte Big u = u / 256
 firstByte Little u = u % 256
