@@ -1,6 +1,6 @@
-//! UTF-16, document 02, A.3. `script`: cases by name; every string of two units at an edge; characters and their bytes, whole and
-//! damaged, of up to thousands of characters, with too few places, just enough and more. `units`: every unit, alone and beside others;
-//! every character.
+//! UTF-16, document 02, A.3. `script`: cases by name; every string of two units at an edge; an awkward unit at every place among
+//! plain ones; characters and their bytes, whole and damaged, of up to thousands of characters, with too few places, just enough
+//! and more. `units`: every unit, alone and beside others; every character.
 
 use super::{alphabet, operation, utf8};
 use crate::random::Random;
@@ -68,11 +68,22 @@ pub fn script(random: &mut Random, count: usize) -> Vec<String> {
         lines.extend(read_both(&[first]));
         lines.extend(EDGES.into_iter().flat_map(|second| read_both(&[first, second])));
     }
+    lines.extend(among_plain());
     while lines.len() < count {
         lines.push(drawn(random));
     }
     lines.truncate(count);
     lines
+}
+
+/// At every place among plain units: a pair, a high and a low surrogate, and characters whose low or high byte is one of D8..DF.
+fn among_plain() -> Vec<String> {
+    let awkward: [&[u16]; 6] = [&[0xD83D, 0xDE00], &[0xD83D], &[0xDE00], &[0x00DF], &[0x00D8], &[0xD7D8]];
+    let line = |place: usize, units: &[u16]| {
+        let plain = |count: usize| vec![0x0061; count];
+        read_both(&[plain(place), units.to_vec(), plain(50 - place)].concat())
+    };
+    (0..=50).flat_map(|place| awkward.iter().flat_map(move |units| line(place, units))).collect()
 }
 
 /// Every unit alone, before and behind each of some; every character written, and its bytes read. With a larger step it is one unit,
