@@ -28,7 +28,7 @@ decode-by false true [] n room e = rw e refl
 decode-by false false [] n room e = rw e refl
 
 -- "14 for an odd number of bytes, then 15 for an unpaired surrogate, with the first such unit's place counted from 0, then 8 for lack of
--- room". "Demand 1 takes in these numbers and later ones.": refused by n exactly when its condition holds and none before it
+-- room": refused by n exactly when its condition holds and none before it. "Demand 1 takes in these numbers and later ones.": it is that law
 pub decode-order : (o : ByteOrder) (bs out : List ℕ) →
     let us = unitsIn o bs in
     refusalIn (decodeAnswer o bs out)

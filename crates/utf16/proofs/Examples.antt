@@ -1,6 +1,6 @@
 -- The Unicode Standard's own examples, and runs with the answers of the comparison's oracle, which has them from the Rust's
--- `char::decode_utf16` and `char::encode_utf16`: the definitions give the same, by computing both. All numbers but counts and places are
--- hexadecimal.
+-- `char::decode_utf16` and `char::encode_utf16`: the definitions give the same, by computing both. Bytes, characters and
+-- units are hexadecimal.
 --     in-units, in-bytes              D91, D96 and D97: their example
 --     read-examples, write-examples   the tables
 use Prim.Native.Nat.{ℕ}
@@ -69,7 +69,8 @@ read-table =
     -- "U+FEFF is passed on as a character.": in its order, in the other, which is FFFE, and twice
     ∷ reading Little (0xFF ∷ 0xFE ∷ 0x61 ∷ 0x00 ∷ []) 2 (Chars 2) (0xFEFF ∷ 0x61 ∷ [])
     ∷ reading Big (0xFE ∷ 0xFF ∷ 0x00 ∷ 0x61 ∷ []) 2 (Chars 2) (0xFEFF ∷ 0x61 ∷ [])
-    ∷ reading Big (0xFF ∷ 0xFE ∷ []) 1 (Chars 1) (0xFFFE ∷ [])
+    ∷ reading Big (0xFF ∷ 0xFE ∷ 0x61 ∷ 0x00 ∷ []) 2 (Chars 2) (0xFFFE ∷ 0x6100 ∷ [])
+    ∷ reading Little (0xFE ∷ 0xFF ∷ 0x00 ∷ 0x61 ∷ []) 2 (Chars 2) (0xFFFE ∷ 0x6100 ∷ [])
     ∷ reading Big (0xFE ∷ 0xFF ∷ 0xFE ∷ 0xFF ∷ []) 2 (Chars 2) (0xFEFF ∷ 0xFEFF ∷ [])
     -- "14 for an odd number of bytes", also before an unpaired surrogate and for lack of room
     ∷ reading Little (0x61 ∷ []) 1 (Refused 14) (ee ∷ [])
@@ -97,6 +98,7 @@ write-table =
     ∷ writing Big (0x10FFFF ∷ []) 4 (Written 4) (0xDB ∷ 0xFF ∷ 0xDF ∷ 0xFF ∷ [])
     ∷ writing Big (0x1F600 ∷ 0xFFFF ∷ []) 8 (Written 6) (0xD8 ∷ 0x3D ∷ 0xDE ∷ 0x00 ∷ 0xFF ∷ 0xFF ∷ ee ∷ ee ∷ [])
     ∷ writing Little (0xFEFF ∷ []) 4 (Written 2) (0xFF ∷ 0xFE ∷ ee ∷ ee ∷ [])
+    ∷ writing Big (0xFFFE ∷ 0x61 ∷ []) 8 (Written 4) (0xFF ∷ 0xFE ∷ 0x00 ∷ 0x61 ∷ ee ∷ ee ∷ ee ∷ ee ∷ [])
     -- "Writing needs 4 bytes of room for each character and gives 1 and 8 as elsewhere.": also where 2 would do
     ∷ writing Little (0x61 ∷ []) 3 (Turned 8) (ee ∷ ee ∷ ee ∷ [])
     ∷ writing Little (0x61 ∷ 0x62 ∷ []) 7 (Turned 8) (ee ∷ ee ∷ ee ∷ ee ∷ ee ∷ ee ∷ ee ∷ [])

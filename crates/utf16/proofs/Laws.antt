@@ -1,6 +1,6 @@
 -- What reading and writing come to, each for both orders at once: the order is a parameter throughout.
---     reads           what reading answers and leaves
---     round-trips     "For accepted input with enough room, decoding then encoding returns the bytes, and encoding then decoding returns the characters."
+--     reads, writes   what reading and writing answer and leave
+--     round-trips     decoding then encoding returns the bytes, and encoding then decoding the characters
 --     same-text       a text read from UTF-16 is the text read from UTF-8
 use Prim.Native.Nat.{ℕ, suc, _+_, _*_, _%_, _≤_, _<_}
 use mathlib.Core.Path.{_≡_, refl, sym, ap, _∙_}
@@ -10,7 +10,7 @@ use mathlib.Core.Logic.{_↔_}
 use native.Mathlib.Omega.{arith}
 use borrow.Author.Tests.{eq-eqb, ne-eqb, eqb-true, eqb-false, le-ltb, lt-ltb, ltb-true, ltb-false}
 use lib.Dec.{eqb, ltb}
-use lib.ListN.{length, length-append}
+use lib.ListN.{length, take, length-append, length-take}
 use lib.Seq.{sets}
 use Rattle.common.specs.Answers.{refusalIn, writtenIn, wroteIn}
 use Rattle.common.proofs.Kit.{never, by, by-lt, both-true}
@@ -22,10 +22,11 @@ use Rattle.utf16.specs.declared.ByteOrder.{ByteOrder}
 use Rattle.utf16.specs.Utf16.{unitsOf, unitsAll, serialised, utf16Of, Encodes}
 use Rattle.utf16.specs.Reading.{unitsIn, FirstUnpaired, unpairedIn, charsIn}
 use Rattle.utf16.specs.Entries.{pairedAnswer, decodeAnswer, decodePlaces, encodeRefusal, encodeAnswer, encodePlaces}
-use Rattle.utf16.specs.Promises.{Bytes, Reads, RoundTrips, SameText}
+use Rattle.utf16.specs.Promises.{Bytes, BreaksAt, Reads, Writes, RoundTrips, SameText}
+use Rattle.utf16.proofs.Units.{length-units, units-take, bytes-take}
 use Rattle.utf16.proofs.Rows.{length-serial, length-units-of, utf16-cons}
 use Rattle.utf16.proofs.Texts.{Decodes, decodes-of, encodes-of}
-use Rattle.utf16.proofs.Places.{first-is, is-first}
+use Rattle.utf16.proofs.Places.{first-is, is-first, first-inside, start-paired, longer-unpaired}
 
 module _ (o : ByteOrder) where
   -- ---- reading
@@ -130,6 +131,21 @@ module _ (o : ByteOrder) where
       unwritten-of (room-way even p h) r = of-room even p h .1
       unwritten-of (read-way even p h) r = let z : 0 < 0 = rw (of-read even p h .0) at r in absurd (omega arith)
 
+      breaks-at : (i : ℕ) → length bs % 2 ≡ 0 → FirstUnpaired us i → BreaksAt o bs i
+      breaks-at i even f =
+          let l = first-inside us i f in
+          let n = length-units o bs in
+          record {
+            inside = omega arith;
+            before = (
+              charsIn (unitsIn o (take (2 * i) bs)),
+              encodes-of o (take (2 * i) bs) _ (bytes-take (2 * i) bs k)
+                  record { even = rw (length-take (2 * i) bs) (omega arith); paired = rw (units-take o i bs) (start-paired us i f); gives = refl },
+            );
+            none-longer =
+                λ j cs h g e. longer-unpaired us i f j h (rw (units-take o j bs) at (decodes-of o (take (2 * j) bs) cs e .paired));
+          }
+
       pub reads : Reads o bs out
       reads =
           record {
@@ -137,6 +153,7 @@ module _ (o : ByteOrder) where
             places = λ cs e h. to-read cs e h .1;
             odd = (odd-of way, λ h. of-odd h .0);
             unpaired = λ i. (unpaired-of way i, λ f. let l = is-first us i (f .1) in of-unpaired (f .0) i (l .0) (l .1) .0);
+            breaks = λ i e. let p = unpaired-of way i e in breaks-at i (p .0) (p .1);
             room = (room-of way, λ r. to-room (r .0) (r .1 .0) (r .1 .1) .0);
             nothing-written = unwritten-of way;
           }
@@ -160,13 +177,40 @@ module _ (o : ByteOrder) where
         (λ h. λ e. (s, h)))
         (λ s. rw s (λ e. absurd (omega (arith, e))))
 
-    -- and what it wrote is the encoding
+    -- and answers and leaves this
+    written : areChars cs ≡ true → 4 * length cs ≤ length buf →
+        (encodeAnswer o cs buf ≡ 0 ∷ length (utf16Of o cs) ∷ []) × (encodePlaces o cs buf ≡ sets buf 0 (utf16Of o cs))
+    unfolding encodeAnswer encodePlaces
+    written s h = rw (s, le-ltb (length buf) (4 * length cs) h) (refl, refl)
+
+    unwritten : 0 < refusalIn (encodeAnswer o cs buf) → encodePlaces o cs buf ≡ buf
+    unfolding encodeAnswer encodePlaces
+    unwritten =
+        by (areChars cs)
+        (λ s. by-lt (length buf) (4 * length cs)
+        (λ h. rw (s, lt-ltb (length buf) (4 * length cs) h) (λ e. refl))
+        (λ h. rw (s, le-ltb (length buf) (4 * length cs) h) (λ e. absurd (omega (arith, e)))))
+        (λ s. rw s (λ e. refl))
+
+    -- what it wrote is the encoding
     wrote-bytes : areChars cs ≡ true → 4 * length cs ≤ length buf →
         (refusalIn (encodeAnswer o cs buf) ≡ 0) × (wroteIn (encodeAnswer o cs buf) (encodePlaces o cs buf) ≡ utf16Of o cs)
-    unfolding encodeAnswer encodePlaces
     wrote-bytes s h =
-        rw (s, le-ltb (length buf) (4 * length cs) h)
-        (refl, take-first (utf16Of o cs) buf _ refl (omega (arith, length-utf16 cs)))
+        let w = written s h in
+        rw (w .0, w .1) (refl, take-first (utf16Of o cs) buf _ refl (omega (arith, length-utf16 cs)))
+
+    writes-of : (n : ℕ) → encodeAnswer o cs buf ≡ 0 ∷ n ∷ [] → (areChars cs ≡ true) × ((4 * length cs ≤ length buf) × (length (utf16Of o cs) ≡ n))
+    writes-of n e =
+        let a = accepted (rw e refl) in
+        (a .0, (a .1, ap writtenIn (sym (written (a .0) (a .1) .0) ∙ e)))
+
+    pub writes : Writes o cs buf
+    writes =
+        record {
+          writes = λ n. (writes-of n, λ a. rw (a .1 .1) at (written (a .0) (a .1 .0) .0));
+          places = λ s h. written s h .1;
+          nothing-written = unwritten;
+        }
 
   -- ---- there and back
   module _ (bs cs out : List ℕ) (e : Encodes o bs cs) (h : length cs ≤ length out) where

@@ -2,6 +2,7 @@
 --     first-is       the first of the list is the first unpaired unit
 --     is-first       the first unpaired unit is the first of the list
 --     some-listed    a unit is unpaired exactly if the list is not empty
+--     start-paired, longer-unpaired   the units before the first unpaired one hold none, and those of any longer start do
 use Prim.Native.Nat.{ℕ, zero, suc, _+_, _-_, _≤_, _<_}
 use mathlib.Core.Path.{_≡_, refl, sym, ap, _∙_}
 use mathlib.Core.Bool.{Bool, true, false, not, cond, _&&_, _||_}
@@ -11,7 +12,8 @@ use native.Mathlib.Nat.{add-zero, zero-add, add-suc}
 use native.Mathlib.Numerals.{add-one}
 use borrow.Author.Tests.{lt-ltb}
 use lib.Dec.{ltb}
-use lib.ListN.{length, getD, List·getD-eq-default}
+use lib.ListN.{length, getD, take, length-take, List·getD-eq-default}
+use lib.Seq.{getD-take}
 use Rattle.common.proofs.Kit.{never, by, by-lt}
 use Rattle.utf16.specs.Reading.{isHigh, isLow, pairAt, unpairedAt, FirstUnpaired, unpaired, next, unpairedFrom, unpairedIn}
 use Rattle.utf16.proofs.Pairs.{high-not-low, low-not-high, zero-plain, zero-no-low}
@@ -145,3 +147,93 @@ some-tells us (x ∷ l) t =
 pub some-listed : (us : List ℕ) → any (unpairedIn us) ≡ some (unpairedAt us) (length us)
 unfolding unpairedIn
 some-listed us = some-tells us (unpairedFrom 0 0 us) (tells us 0 0)
+
+-- ---- the units before the first unpaired one, and longer starts
+-- with u before v, of which u is not unpaired and v is: u is no high surrogate, and so is not unpaired as the last either
+by-last : (hu lu hb hv lv x : Bool) → (lv ≡ true → hv ≡ false) → (hu && not lv) || (lu && not hb) ≡ false →
+    (hv && x) || (lv && not hu) ≡ true → (hu && true) || (lu && not hb) ≡ false
+by-last true lu hb hv true x e p q = never (rw (e refl) at q)
+by-last true lu hb hv false x e p q = never (sym p)
+by-last false lu hb hv lv x e p q = p
+
+-- what is unpaired is so as the last
+by-end : (hu lu hb lv : Bool) → (hu && not lv) || (lu && not hb) ≡ true → (hu && true) || (lu && not hb) ≡ true
+by-end true lu hb lv p = refl
+by-end false lu hb lv p = p
+
+past-start : (m : ℕ) (us : List ℕ) (j : ℕ) → m ≤ j → getD (take m us) j 0 ≡ 0
+past-start m us j h = List·getD-eq-default (take m us) 0 (omega (arith, length-take m us))
+
+before-start : (m : ℕ) (us : List ℕ) (j : ℕ) → j < m → beforeAt 0 (take m us) j ≡ beforeAt 0 us j
+before-start m us zero h = refl
+before-start m us (suc j) h = getD-take m us j 0 (omega arith)
+
+-- inside a start, but for its last unit, a flag is that of the whole
+flag-start : (m : ℕ) (us : List ℕ) (j : ℕ) → suc j < m → flag 0 (take m us) j ≡ flag 0 us j
+flag-start m us j h =
+    rw (before-start m us j (omega arith), getD-take m us j 0 (omega arith), getD-take m us (suc j) 0 h)
+
+-- its last unit has none behind it
+flag-last : (m : ℕ) (us : List ℕ) (j : ℕ) → suc j ≡ m → flag 0 (take m us) j ≡ unpaired (beforeAt 0 us j) (getD us j 0) 0
+flag-last m us j h =
+    rw (before-start m us j (omega arith), getD-take m us j 0 (omega arith), past-start m us (suc j) (omega arith))
+
+none-listed : (us : List ℕ) → ((j : ℕ) → flag 0 us j ≡ false) → unpairedIn us ≡ []
+unfolding unpairedIn
+none-listed us h = by-list (unpairedFrom 0 0 us) (tells us 0 0)
+  where
+    by-list : (l : List ℕ) → Tells 0 0 us l → l ≡ []
+    by-list [] t = refl
+    by-list (x ∷ l) t = never (sym (h (t .0)) ∙ t .1 .1 .0)
+
+listed-none : (us : List ℕ) → unpairedIn us ≡ [] → (j : ℕ) → flag 0 us j ≡ false
+unfolding unpairedIn
+listed-none us e = by-list (unpairedFrom 0 0 us) (tells us 0 0) e
+  where
+    by-list : (l : List ℕ) → Tells 0 0 us l → l ≡ [] → (j : ℕ) → flag 0 us j ≡ false
+    by-list [] t e = t
+    by-list (x ∷ l) t e = absurd (omega (arith, ap length e))
+
+module _ (us : List ℕ) (i : ℕ) (f : FirstUnpaired us i) where
+  first-flag : flag 0 us i ≡ true
+  first-flag = sym (flag-is us i) ∙ f .is
+
+  pub first-inside : i < length us
+  first-inside = flag-inside us i first-flag
+
+  none-before-flag : (j : ℕ) → j < i → flag 0 us j ≡ false
+  none-before-flag j h = sym (flag-is us j) ∙ f .none-before j h
+
+  last-before : (j : ℕ) → suc j ≡ i → flag 0 (take i us) j ≡ false
+  unfolding unpaired
+  last-before j e =
+      let u = getD us j 0 in
+      let v = getD us (suc j) 0 in
+      flag-last i us j e
+      ∙ rw zero-no-low
+      (by-last (isHigh u) (isLow u) (isHigh (beforeAt 0 us j)) (isHigh v) (isLow v) (not (isLow (getD us (suc (suc j)) 0))) (low-not-high v)
+      (none-before-flag j (omega arith)) (rw (← e) at first-flag))
+
+  start-flag : (j : ℕ) → flag 0 (take i us) j ≡ false
+  start-flag j =
+      by (flag 0 (take i us) j)
+      (λ t.
+      let l = flag-inside (take i us) j t in
+      by-lt (suc j) i (λ h. never (sym (flag-start i us j h ∙ none-before-flag j (omega arith)) ∙ t))
+      (λ h. never (sym (last-before j (omega (arith, l, length-take i us))) ∙ t)))
+      (λ t. t)
+
+  pub start-paired : unpairedIn (take i us) ≡ []
+  start-paired = none-listed (take i us) start-flag
+
+  longer-flag : (m : ℕ) → i < m → flag 0 (take m us) i ≡ true
+  unfolding unpaired
+  longer-flag m h =
+      let u = getD us i 0 in
+      by-lt (suc i) m (λ l. flag-start m us i l ∙ first-flag)
+      (λ l.
+      flag-last m us i (omega arith)
+      ∙ rw zero-no-low (by-end (isHigh u) (isLow u) (isHigh (beforeAt 0 us i)) (isLow (getD us (suc i) 0)) first-flag))
+
+  pub longer-unpaired : (m : ℕ) → i < m → unpairedIn (take m us) ≡ [] → ⊥
+  longer-unpaired m h e = never (sym (listed-none (take m us) e i) ∙ longer-flag m h)

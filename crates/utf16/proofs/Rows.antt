@@ -1,6 +1,5 @@
 -- The rows of Table 3-5, and the bytes of a text character by character.
 --     row-one, row-two     a character's units: itself, or a pair as RFC 2781, 2.1, makes it, by the 20 bits of c - 10000
---     pair-high, pair-low  the units of a pair are a high and a low surrogate
 --     serial-append        the bytes of units in two parts
 --     length-serial        two bytes a unit
 --     length-units-of      one unit or two
@@ -16,11 +15,13 @@ use Rattle.utf16.specs.declared.ByteOrder.{ByteOrder}
 use Rattle.utf16.specs.Utf16.{unitsOf, unitsAll, firstByte, secondByte, serialised, utf16Of}
 
 -- ---- a character's units
+-- "The Unicode Standard defines both forms.": a character up to FFFF is its own unit
 pub row-one : (c : ℕ) → c < 0x10000 → unitsOf c ≡ c ∷ []
 unfolding unitsOf
 row-one c h = simp (lt-ltb c 0x10000 h)
 
--- with v = c - 10000 and q = v / 400: c / 10000 = 1 + q / 40, c / 400 = 40 + q and c % 400 = v % 400
+-- "The Unicode Standard defines both forms.", as RFC 2781, 2.1, has it: the ten high bits of c - 10000 go to the first unit, the ten low
+-- ones to the second. With v = c - 10000 and q = v / 400: c / 10000 = 1 + q / 40, c / 400 = 40 + q and c % 400 = v % 400
 pub row-two : (c : ℕ) → 0x10000 ≤ c → unitsOf c ≡ (0xD800 + (c - 0x10000) / 0x400) ∷ (0xDC00 + (c - 0x10000) % 0x400) ∷ []
 unfolding unitsOf
 row-two c h =

@@ -1,7 +1,7 @@
 -- Characters as units, and back: `units-read` by going through the characters, `chars-read` by going through the units, a pair at once.
---     pair-is        a pair and its character, both ways
---     units-read     the units of characters hold no unpaired surrogate and give the characters
---     chars-read     units without an unpaired surrogate are those of the characters they give
+--     pair-units        a pair is the units of the character that it gives; units-char, the other way
+--     units-read        the units of characters hold no unpaired surrogate and give the characters
+--     chars-read        units without an unpaired surrogate are those of the characters they give
 --     encodes-exactly   bytes encode characters exactly where they are even in number, hold no unpaired surrogate and give them
 use Prim.Native.Nat.{ℕ, suc, _+_, _-_, _*_, _/_, _%_, _≤_, _<_}
 use mathlib.Core.Path.{_≡_, refl, sym, ap, _∙_}

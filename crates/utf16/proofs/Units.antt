@@ -1,7 +1,9 @@
--- Bytes as units, and back, for either order: `unit-low`, `byte-first`, `byte-second` and `unit-back` alone ask which.
+-- Bytes as units, and back, for either order: of this file `unit-low`, `byte-first`, `byte-second` and `unit-back` alone ask which.
+--     big-endian, little-endian  a unit's bytes: the high one and then the low one; exchanged
 --     length-units               a unit for every two bytes
 --     units-inside, units-past   a loop's test, in units
 --     unit-at                    the unit at a place, by its two bytes
+--     units-take, bytes-take     the units of a start of the bytes; they are bytes
 --     units-back                 units as bytes, read again
 --     bytes-back                 an even number of bytes as units, written again
 --     units-low                  units of bytes have 16 bits
@@ -9,12 +11,23 @@ use Prim.Native.Nat.{ℕ, zero, suc, _+_, _*_, _/_, _%_, _≤_, _<_}
 use mathlib.Core.Path.{_≡_, refl, sym, ap, _∙_}
 use mathlib.Core.List.{List, [], _∷_}
 use native.Mathlib.Omega.{arith}
-use lib.ListN.{length, getD}
+use lib.ListN.{length, getD, take, length-take, List·getD-eq-default}
+use lib.Seq.{getD-take}
+use Rattle.common.proofs.Kit.{by-lt}
 use Rattle.utf16.specs.declared.ByteOrder.{ByteOrder}
 use Rattle.utf16.specs.declared.ByteOrder.the-variants.{Little, Big}
 use Rattle.utf16.specs.Utf16.{firstByte, secondByte, serialised}
 use Rattle.utf16.specs.Reading.{unitOf, unitsIn}
 use Rattle.utf16.specs.Promises.{Bytes}
+
+-- Unicode Standard, D96: "in big-endian format"
+pub big-endian : (u : ℕ) → u < 0x10000 →
+    (firstByte Big u * 256 + secondByte Big u ≡ u) × ((firstByte Big u < 256) × (secondByte Big u < 256))
+big-endian u h = (omega arith, (omega arith, omega arith))
+
+-- Unicode Standard, D97: "in little-endian format"
+pub little-endian : (u : ℕ) → (firstByte Little u ≡ secondByte Big u) × (secondByte Little u ≡ firstByte Big u)
+little-endian u = (refl, refl)
 
 pub length-units : (o : ByteOrder) (bs : List ℕ) → length (unitsIn o bs) ≡ length bs / 2
 length-units o [] = refl
@@ -49,6 +62,17 @@ unit-at o (a ∷ b ∷ bs) (suc i) h =
 pub unit-low : (o : ByteOrder) (a b : ℕ) → a < 256 → b < 256 → unitOf o a b < 0x10000
 unit-low Big a b h g = omega arith
 unit-low Little a b h g = omega arith
+
+pub units-take : (o : ByteOrder) (n : ℕ) (bs : List ℕ) → unitsIn o (take (2 * n) bs) ≡ take n (unitsIn o bs)
+units-take o zero bs = refl
+units-take o (suc n) [] = rw (two-more n)
+units-take o (suc n) (a ∷ []) = rw (two-more n)
+units-take o (suc n) (a ∷ b ∷ bs) = rw (two-more n) (ap (λ (l : List ℕ). unitOf o a b ∷ l) (units-take o n bs))
+
+pub bytes-take : (n : ℕ) (bs : List ℕ) → Bytes bs → Bytes (take n bs)
+bytes-take n bs k i =
+    by-lt i n (λ h. rw (getD-take n bs i 0 h) (k i))
+    (λ h. rw (List·getD-eq-default (take n bs) 0 {n = i} (omega (arith, length-take n bs))) (omega arith))
 
 -- ---- and back
 byte-first : (o : ByteOrder) (a b : ℕ) → a < 256 → b < 256 → firstByte o (unitOf o a b) ≡ a

@@ -45,6 +45,7 @@ encodeRefusal cs out = cond (not (areChars cs)) 1 (roomRefusal (4 * length cs) (
 unfoldable pub encodeAnswer : ByteOrder → List ℕ → List ℕ → List ℕ
 encodeAnswer o cs out = cond (eqb (encodeRefusal cs out) 0) (0 ∷ length (utf16Of o cs) ∷ []) (encodeRefusal cs out ∷ [])
 
--- the bytes as writing leaves them: those of the characters from the first on, and the others as they were
+-- the bytes as writing leaves them: those of the characters from the first on, and the others as they were; "none of them writes
+-- anything"
 unfoldable pub encodePlaces : ByteOrder → List ℕ → List ℕ → List ℕ
 encodePlaces o cs out = cond (eqb (encodeRefusal cs out) 0) (sets out 0 (utf16Of o cs)) out

@@ -1,5 +1,5 @@
-// UTF-16 in either byte order: a whole run of bytes read as characters, and characters written as bytes. Stands for
-// `char::decode_utf16` and `char::encode_utf16`, which go by units of 16 bits, with the bytes of each unit. Document 02, A.3.
+// UTF-16 in either byte order: a whole run of bytes read as characters, and characters written as bytes. Document 02, A.3. Stands for
+// `char::decode_utf16` and `char::encode_utf16`; these go by units of 16 bits, and this by the bytes of each.
 use common::Answer;
 use common::NO_ROOM;
 use common::NOT_A_CHAR;

@@ -19,7 +19,7 @@ const EDGES: [u16; 16] = [
 const NEIGHBOURS: [u16; 5] = [0x0061, 0xD800, 0xDBFF, 0xDC00, 0xDFFF];
 
 /// What a case shows, and its operation.
-const NAMED: [(&str, &str); 34] = [
+const NAMED: [(&str, &str); 40] = [
     ("D91, D97: the example, little-endian", "U16 enc le 10 4d 430 4e8c 10302"),
     ("D91, D96: the example, big-endian", "U16 enc be 10 4d 430 4e8c 10302"),
     ("the same, read", "U16 dec le 4 4d 0 30 4 8c 4e 0 d8 2 df"),
@@ -33,7 +33,8 @@ const NAMED: [(&str, &str); 34] = [
     ("beside the surrogates", "U16 dec be 3 d7 ff e0 0 ff ff"),
     ("U+FEFF, little-endian", "U16 dec le 2 ff fe 61 0"),
     ("U+FEFF, big-endian", "U16 dec be 2 fe ff 0 61"),
-    ("U+FEFF, in the other order", "U16 dec be 1 ff fe"),
+    ("U+FEFF in the other order, and a letter", "U16 dec be 2 ff fe 61 0"),
+    ("the same, little-endian", "U16 dec le 2 fe ff 0 61"),
     ("U+FEFF twice", "U16 dec be 2 fe ff fe ff"),
     ("an odd number of bytes", "U16 dec le 1 61"),
     ("an odd number, with a surrogate and no place", "U16 dec le 0 0 d8 61"),
@@ -50,6 +51,11 @@ const NAMED: [(&str, &str); 34] = [
     ("no characters", "U16 enc be 0"),
     ("a character, with more room", "U16 enc le 5 61"),
     ("the last character", "U16 enc be 4 10ffff"),
+    ("the first of two units", "U16 enc le 4 10000"),
+    ("two bytes, big-endian", "U16 enc be 4 20ac"),
+    ("U+FEFF, written", "U16 enc le 4 feff"),
+    ("U+FFFE, and a letter", "U16 enc be 8 fffe 61"),
+    ("seven bytes for two characters", "U16 enc le 7 61 62"),
     ("four bytes and two, with just enough room", "U16 enc be 8 1f600 ffff"),
     ("a byte too few, where two would do", "U16 enc le 3 61"),
     ("no character", "U16 enc le 4 d800"),

@@ -156,21 +156,23 @@ loop2-again c =
     let unit = high .before .before .before in
     let l = unit .before in
     let x = l .before in
-    let a = x .before .before .before .before .before .before .args in
-    (pair _ _ _ (x .loop2 .inv .0)
-    (units-inside (a .order) (a .bytes .now) _ (omega (arith, l .loop2-test .taken, x .before .steps-end .ensures .0)))
-    (rw (← unit .unit-at .ensures .0, ← after .unit-or-none .ensures .0, ← high .is-high .ensures, ← c .before .is-low .ensures) (not-false _ (c .if2 .left))),
-    omega (arith, x .loop2 .inv .1))
+    let a = x .before .before .before .before .before .before .args in (
+      pair _ _ _ (x .loop2 .inv .0)
+          (units-inside (a .order) (a .bytes .now) _ (omega (arith, l .loop2-test .taken, x .before .steps-end .ensures .0)))
+          (rw (← unit .unit-at .ensures .0, ← after .unit-or-none .ensures .0, ← high .is-high .ensures, ← c .before .is-low .ensures) (not-false _ (c .if2 .left))),
+      omega (arith, x .loop2 .inv .1),
+    )
 
 loop2-again-2 : tie.Need-loop2-again-2 Inv-loop2 μ-loop2 Inv-loop μ-loop
 loop2-again-2 c =
     let l = c .before .before .before in
     let x = l .before in
-    let a = x .before .before .before .before .before .before .args in
-    (plain _ _ _ (x .loop2 .inv .0)
-    (units-inside (a .order) (a .bytes .now) _ (omega (arith, l .loop2-test .taken, x .before .steps-end .ensures .0)))
-    (rw (c .before .before .unit-at .ensures .0) at (sym (c .before .is-surrogate .ensures) ∙ c .if1 .left)),
-    omega (arith, x .loop2 .inv .1))
+    let a = x .before .before .before .before .before .before .args in (
+      plain _ _ _ (x .loop2 .inv .0)
+          (units-inside (a .order) (a .bytes .now) _ (omega (arith, l .loop2-test .taken, x .before .steps-end .ensures .0)))
+          (rw (c .before .before .unit-at .ensures .0) at (sym (c .before .is-surrogate .ensures) ∙ c .if1 .left)),
+      omega (arith, x .loop2 .inv .1),
+    )
 
 returns-2 : tie.Need-returns-2 Inv-loop2 μ-loop2 Inv-loop μ-loop
 returns-2 c =

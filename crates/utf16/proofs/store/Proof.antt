@@ -198,21 +198,23 @@ loop2-again c =
     let l = c .before .before .before .before in
     let x = l .before in
     let a = x .before .before .before .before .before .before .before .before .before .before .before .args in
-    let e = c .before .before .before .unit-at .ensures .0 in
-    (stored _ _ _ _ _ _ _ (x .loop2 .inv .0)
-    (units-inside (a .order) (a .bytes .now) _ (omega (arith, l .loop2-test .taken, x .before .steps-end .ensures .0)))
-    (rw (← e, ← c .before .before .is-low .ensures) (not-true _ (c .before .if1 .taken))) (c .char-at .result) (rw (← e) (c .char-at .ensures)),
-    omega (arith, x .loop2 .inv .1))
+    let e = c .before .before .before .unit-at .ensures .0 in (
+      stored _ _ _ _ _ _ _ (x .loop2 .inv .0)
+          (units-inside (a .order) (a .bytes .now) _ (omega (arith, l .loop2-test .taken, x .before .steps-end .ensures .0)))
+          (rw (← e, ← c .before .before .is-low .ensures) (not-true _ (c .before .if1 .taken))) (c .char-at .result) (rw (← e) (c .char-at .ensures)),
+      omega (arith, x .loop2 .inv .1),
+    )
 
 loop2-again-2 : tie.Need-loop2-again-2 Inv-loop2 μ-loop2 Inv-loop μ-loop
 loop2-again-2 c =
     let l = c .before .before .before in
     let x = l .before in
-    let a = x .before .before .before .before .before .before .before .before .before .before .before .args in
-    (passed _ _ _ _ _ _ _ (x .loop2 .inv .0)
-    (units-inside (a .order) (a .bytes .now) _ (omega (arith, l .loop2-test .taken, x .before .steps-end .ensures .0)))
-    (rw (← c .before .before .unit-at .ensures .0, ← c .before .is-low .ensures) (not-false _ (c .if1 .left))),
-    omega (arith, x .loop2 .inv .1))
+    let a = x .before .before .before .before .before .before .before .before .before .before .before .args in (
+      passed _ _ _ _ _ _ _ (x .loop2 .inv .0)
+          (units-inside (a .order) (a .bytes .now) _ (omega (arith, l .loop2-test .taken, x .before .steps-end .ensures .0)))
+          (rw (← c .before .before .unit-at .ensures .0, ← c .before .is-low .ensures) (not-false _ (c .if1 .left))),
+      omega (arith, x .loop2 .inv .1),
+    )
 
 returns : tie.Need-returns Inv-loop2 μ-loop2 Inv-loop μ-loop
 returns c =
