@@ -1,8 +1,9 @@
--- Stretches of units without surrogates, found by their bytes.
+-- Stretches: of units without surrogates, found by their bytes; of characters that have one unit.
 --     plain-unit     a unit whose bytes are both outside D8..DF is no surrogate
 --     to-here        no unit
 --     to-more        a block more
 --     plain-list     such units give themselves, and then what the others give
+--     short-here, short-more, short-list   the same of characters of one unit
 use Prim.Native.Nat.{ℕ, zero, suc, _+_, _-_, _*_, _/_, _≤_, _<_}
 use mathlib.Core.Path.{_≡_, refl, sym, ap, _∙_}
 use mathlib.Core.Bool.{Bool, true, false, not, _&&_, _||_}
@@ -12,12 +13,15 @@ use borrow.Author.Tests.{le-leb, lt-leb, leb-true, not-true}
 use lib.Dec.{leb}
 use lib.ListN.{length, getD, take, drop}
 use Rattle.common.proofs.Kit.{never, by, by-lt, both-true, both}
+use Rattle.common.proofs.Places.{none, joined}
 use Rattle.utf16.specs.declared.ByteOrder.{ByteOrder}
 use Rattle.utf16.specs.declared.ByteOrder.the-variants.{Little, Big}
+use Rattle.utf16.specs.Utf16.{firstByte, secondByte, serialised, utf16Of}
 use Rattle.utf16.specs.Reading.{unitOf, unitsIn, isHigh, isLow, charsIn}
 use Rattle.utf16.specs.Promises.{Bytes}
-use Rattle.utf16.specs.Inner.{plainByte, PlainBytes, PlainTo}
+use Rattle.utf16.specs.Inner.{plainByte, PlainBytes, PlainTo, OneUnit, OneUnitTo}
 use Rattle.utf16.proofs.Units.{unit-at}
+use Rattle.utf16.proofs.Rows.{row-one, utf16-cons}
 use Rattle.utf16.proofs.Pairs.{surrogate-range, neither}
 use Rattle.utf16.proofs.Texts.{char-itself}
 
@@ -64,3 +68,21 @@ plain-list (suc m) (u ∷ us) h p =
     let n = neither (isHigh u) (isLow u) (p 0 (omega arith)) in
     rw (n .1, char-itself u (getD us 0 0) (n .0))
     (ap (λ (l : List ℕ). u ∷ l) (plain-list m us (omega arith) (λ x l. p (suc x) (omega arith))))
+
+-- ---- characters of one unit
+pub short-here : (cs : List ℕ) (f : ℕ) → f ≤ length cs → OneUnitTo cs f f
+short-here cs f h = record { begun = omega arith; inside = h; each = none (λ x. getD cs x 0 < 0x10000) f f (omega arith) }
+
+pub short-more : (cs : List ℕ) (f i m : ℕ) → OneUnitTo cs f i → i + m ≤ length cs → OneUnit cs i (i + m) → OneUnitTo cs f (i + m)
+short-more cs f i m t h p =
+    record { begun = omega (arith, t .begun); inside = h; each = joined (λ x. getD cs x 0 < 0x10000) f i (i + m) (t .each) p }
+
+-- they are their own units
+pub short-list : (o : ByteOrder) (m : ℕ) (cs : List ℕ) → m ≤ length cs → ((x : ℕ) → x < m → getD cs x 0 < 0x10000) →
+    utf16Of o cs ≡ serialised o (take m cs) ++ utf16Of o (drop m cs)
+short-list o zero cs h p = refl
+short-list o (suc m) [] h p = absurd (omega arith)
+short-list o (suc m) (c ∷ cs) h p =
+    utf16-cons o c cs
+    ∙ rw (row-one c (p 0 (omega arith)))
+    (ap (λ (l : List ℕ). firstByte o c ∷ secondByte o c ∷ l) (short-list o m cs (omega arith) (λ x l. p (suc x) (omega arith))))

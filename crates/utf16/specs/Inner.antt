@@ -37,3 +37,14 @@ pub record PlainTo (bs : List ℕ) (f t : ℕ) : Type 0 where
   pub begun : f ≤ t
   pub inside : t ≤ length bs / 2
   pub each : (o : ByteOrder) (x : ℕ) → f ≤ x → x < t → isHigh (getD (unitsIn o bs) x 0) || isLow (getD (unitsIn o bs) x 0) ≡ false
+
+-- ---- stretches of characters of one unit
+-- all characters from place f up to place t are below 10000
+abbrev pub OneUnit : List ℕ → ℕ → ℕ → Type 0
+OneUnit cs f t = (x : ℕ) → f ≤ x → x < t → getD cs x 0 < 0x10000
+
+-- the same, where t is not past the last
+pub record OneUnitTo (cs : List ℕ) (f t : ℕ) : Type 0 where
+  pub begun : f ≤ t
+  pub inside : t ≤ length cs
+  pub each : OneUnit cs f t

@@ -16,7 +16,7 @@ ghost use Rattle.unicode.specs.Chars.{areChars};
 ghost use Rattle.utf16.specs.Utf16.{unitsOf, firstByte, secondByte, serialised, utf16Of};
 ghost use Rattle.utf16.specs.Reading.{unitOf, unitsIn, isHigh, isLow, charOf, charsIn};
 ghost use Rattle.utf16.specs.Entries.{decodedNumbers, decodeAnswer, decodePlaces, encodeAnswer, encodePlaces};
-ghost use Rattle.utf16.specs.Inner.{foundIn, PlainBytes, PlainTo};
+ghost use Rattle.utf16.specs.Inner.{foundIn, PlainBytes, PlainTo, OneUnit, OneUnitTo};
 
 // Which byte of a unit stands first: the low one, or the high one. "one little-endian and one big-endian"
 pub enum ByteOrder {
@@ -264,7 +264,51 @@ fn put_char(order: ByteOrder, c: u32, out: &mut [u8], at: usize) -> usize
     at + 4
 }
 
-// Writes all characters from the first byte on, and answers how many bytes they took.
+// Whether so many characters from `at` on are below 10000, and so have one unit. The loop has no early exit, so that it can be
+// vectorised.
+fn is_short_block(chars: &[u32], at: usize, size: usize) -> bool
+    requires { ⌜ at + size ≤ length (now chars) ⌝ }
+    ensures { λ r. ⌜ (r ≡ true → OneUnit (now (chars .entry)) at (at + size)) ⌝ }
+{
+    let mut good = true;
+    let mut tested = 0;
+    while tested < size {
+        good = good & (chars[at + tested] < 0x10000);
+        tested += 1;
+    }
+    good
+}
+
+// A place up to which every character from `from` on has one unit, in whole blocks of 16.
+fn short_end(chars: &[u32], from: usize) -> usize
+    requires { ⌜ from ≤ length (now chars) ⌝ }
+    ensures { λ r. ⌜ OneUnitTo (now (chars .entry)) from r ⌝ }
+{
+    let mut i = from;
+    while 16 <= chars.len() - i {
+        if !is_short_block(chars, i, 16) {
+            return i;
+        }
+        i += 16;
+    }
+    i
+}
+
+// Writes the characters from `from` up to `end`, each of which has one unit, at a place.
+fn put_short(order: ByteOrder, chars: &[u32], from: usize, end: usize, out: &mut [u8], at: usize)
+    requires { ⌜ OneUnitTo (now chars) from end ⌝ }
+    requires { ⌜ at + 2 * (end - from) ≤ length (now out) ⌝ }
+    ensures { λ r. ⌜ now (out .exit) ≡ sets (now (out .entry)) at (serialised order (take (end - from) (drop from (now (chars .entry))))) ⌝ }
+{
+    let mut j = 0;
+    while j < end - from {
+        put_unit(order, chars[from + j], out, at + 2 * j);
+        j += 1;
+    }
+}
+
+// Writes all characters from the first byte on, and answers how many bytes they took: those of one unit in stretches, then some one by
+// one.
 fn put_chars(order: ByteOrder, chars: &[u32], out: &mut [u8]) -> usize
     requires { ⌜ (areChars (now chars) ≡ true) × (4 * length (now chars) ≤ length (now out)) ⌝ }
     ensures { λ r. ⌜ (r ≡ length (utf16Of order (now (chars .entry)))) × (now (out .exit) ≡ sets (now (out .entry)) 0 (utf16Of order (now (chars .entry)))) ⌝ }
@@ -272,8 +316,15 @@ fn put_chars(order: ByteOrder, chars: &[u32], out: &mut [u8]) -> usize
     let mut at = 0;
     let mut i = 0;
     while i < chars.len() {
-        at = put_char(order, chars[i], out, at);
-        i += 1;
+        let end = short_end(chars, i);
+        put_short(order, chars, i, end, out, at);
+        at = at + 2 * (end - i);
+        i = end;
+        let stop = steps_end(i, chars.len());
+        while i < stop {
+            at = put_char(order, chars[i], out, at);
+            i += 1;
+        }
     }
     at
 }
