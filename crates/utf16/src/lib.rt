@@ -64,6 +64,7 @@ fn unit_or_none(order: ByteOrder, bytes: &[u8], i: usize) -> u32
     0
 }
 
+// Whether a unit is a surrogate, a high one, a low one. Total.
 fn is_surrogate(u: u32) -> bool
     ensures { λ r. ⌜ r ≡ isHigh u || isLow u ⌝ }
 {
@@ -121,7 +122,7 @@ fn plain_end(bytes: &[u8], from: usize) -> usize
     i
 }
 
-// Where the units that go one by one end, from place i on: 16 of them, or what is left.
+// Where the units or characters that go one by one end, from place i on: 16 of them, or what is left.
 fn steps_end(i: usize, n: usize) -> usize
     requires { ⌜ i ≤ n ⌝ }
     ensures { λ r. ⌜ (r ≤ n) × (i < n → i < r) ⌝ }
@@ -169,7 +170,7 @@ fn char_at(order: ByteOrder, bytes: &[u8], u: u32, i: usize) -> u32
     u
 }
 
-// Stores the units from `from` up to `end` as they are, from place k on.
+// Stores the units from `from` up to `end` as they are, from place k on: of a stretch they are the characters.
 fn widen(order: ByteOrder, bytes: &[u8], from: usize, end: usize, out: &mut [u32], k: usize)
     requires { ⌜ (from ≤ end) × (end ≤ length (now bytes) / 2) ⌝ }
     requires { ⌜ k + (end - from) ≤ length (now out) ⌝ }
