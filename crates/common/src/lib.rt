@@ -1,5 +1,5 @@
 // What all crates share and none owns: the refusals by name, the answer of a call that writes lent places, and the lesser of two.
-// The definitions write the refusals' numbers, as document 01 lists them, and the code these names.
+// The definitions write the refusals' numbers, as the documents list them, and the code these names.
 ghost use Prim.Native.Nat.{_≤_};
 
 // A value in D800..DFFF or above 10FFFF.
@@ -47,7 +47,7 @@ pub const ODD_BYTES: u32 = 14;
 // A surrogate in no pair; it comes with its place.
 pub const UNPAIRED_SURROGATE: u32 = 15;
 
-// What scan, finish and isolation answer: how many places were written, or the number of a refusal.
+// What scan, finish, isolation and writing UTF-16 answer: how many places were written, or the number of a refusal.
 pub enum Answer {
     Written(usize),
     Refused(u32),

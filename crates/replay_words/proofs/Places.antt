@@ -1,7 +1,7 @@
--- The places from one on are blank by the one there, and those behind it.
---     other    one that is not blank
---     next     one that is
---     none     no place
+-- Whether the places from i on are blank, by the place at i.
+--     other    it is not blank: they are not
+--     next     it is: they are if those behind it are
+--     none     there is no place: they are
 use Prim.Native.Nat.{ℕ, _+_, _<_, _≤_}
 use mathlib.Core.Path.{_≡_, sym, _∙_}
 use mathlib.Core.Bool.{true, false, _&&_}

@@ -3,7 +3,7 @@
 --     encode-order     writing is refused by 1, then by 8
 --     decoded-back     for every answer, that of its numbers is it: no two answers list alike
 use Prim.Native.Nat.{ℕ, _*_, _%_}
-use mathlib.Core.Path.{_≡_, refl, sym, _∙_}
+use mathlib.Core.Path.{_≡_, refl}
 use mathlib.Core.Bool.{Bool, true, false, not, cond}
 use mathlib.Core.List.{List, [], _∷_}
 use lib.Dec.{eqb, ltb}

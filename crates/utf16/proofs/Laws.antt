@@ -2,26 +2,24 @@
 --     reads, writes   what reading and writing answer and leave
 --     round-trips     decoding then encoding returns the bytes, and encoding then decoding the characters
 --     same-text       a text read from UTF-16 is the text read from UTF-8
-use Prim.Native.Nat.{ℕ, suc, _+_, _*_, _%_, _≤_, _<_}
+use Prim.Native.Nat.{ℕ, _*_, _%_, _≤_, _<_}
 use mathlib.Core.Path.{_≡_, refl, sym, ap, _∙_}
-use mathlib.Core.Bool.{Bool, true, false, not, cond}
+use mathlib.Core.Bool.{true, false}
 use mathlib.Core.List.{List, [], _∷_}
-use mathlib.Core.Logic.{_↔_}
 use native.Mathlib.Omega.{arith}
-use borrow.Author.Tests.{eq-eqb, ne-eqb, eqb-true, eqb-false, le-ltb, lt-ltb, ltb-true, ltb-false}
-use lib.Dec.{eqb, ltb}
+use borrow.Author.Tests.{eq-eqb, ne-eqb, le-ltb, lt-ltb}
+use lib.Dec.{eqb}
 use lib.ListN.{length, take, length-append, length-take}
 use lib.Seq.{sets}
 use Rattle.common.specs.Answers.{refusalIn, writtenIn, wroteIn}
-use Rattle.common.proofs.Kit.{never, by, by-lt, both-true}
+use Rattle.common.proofs.Kit.{by, by-lt}
 use Rattle.common.proofs.Lists.{take-first}
 use Rattle.unicode.specs.Chars.{areChars}
-use Rattle.unicode.specs.Utf8.{encodeAll, charsOf}
 use Rattle.unicode.proofs.Texts.{decode-encode}
 use Rattle.utf16.specs.declared.ByteOrder.{ByteOrder}
-use Rattle.utf16.specs.Utf16.{unitsOf, unitsAll, serialised, utf16Of, Encodes}
+use Rattle.utf16.specs.Utf16.{unitsOf, utf16Of, Encodes}
 use Rattle.utf16.specs.Reading.{unitsIn, FirstUnpaired, unpairedIn, charsIn}
-use Rattle.utf16.specs.Entries.{pairedAnswer, decodeAnswer, decodePlaces, encodeRefusal, encodeAnswer, encodePlaces}
+use Rattle.utf16.specs.Entries.{decodeAnswer, decodePlaces, encodeAnswer, encodePlaces}
 use Rattle.utf16.specs.Promises.{Bytes, BreaksAt, Reads, Writes, RoundTrips, SameText}
 use Rattle.utf16.proofs.Units.{length-units, units-take, bytes-take}
 use Rattle.utf16.proofs.Rows.{length-serial, length-units-of, utf16-cons}

@@ -1,17 +1,19 @@
 -- Unpaired surrogates and characters as a list of units is read, unit by unit and pair by pair.
+--     neither            the parts of an `||` that does not hold
 --     surrogate-range    the surrogates are one range
---     low-not-high       a low surrogate is no high one
---     behind-none        behind a unit that is no high surrogate a list is read as behind none
+--     low-bounds, high-bounds, low-of, high-of    the ranges of low and of high ones, both ways
+--     low-not-high, high-not-low                  none is both
+--     zero-plain, zero-no-low                     0, which stands where there is no unit, is none
 --     plain-turn         what a unit that is no surrogate adds: nothing
 --     pair-turn          what a pair adds: one low surrogate
 --     unpaired-turn      any other surrogate is unpaired
 --     length-chars       each unit but a low surrogate gives a character
-use Prim.Native.Nat.{ℕ, suc, _+_, _≤_, _<_}
-use mathlib.Core.Path.{_≡_, refl, sym, ap, _∙_}
-use mathlib.Core.Bool.{Bool, true, false, cond, not, _&&_, _||_}
+use Prim.Native.Nat.{ℕ, suc, _+_, _≤_}
+use mathlib.Core.Path.{_≡_, refl, sym, _∙_}
+use mathlib.Core.Bool.{Bool, true, false, _&&_, _||_}
 use mathlib.Core.List.{List, [], _∷_}
 use native.Mathlib.Omega.{arith}
-use borrow.Author.Tests.{le-leb, lt-leb, leb-true, leb-false}
+use borrow.Author.Tests.{le-leb, lt-leb, leb-true}
 use lib.Dec.{leb}
 use lib.ListN.{length}
 use Rattle.common.proofs.Kit.{never, by, by-lt, both-true, both}
@@ -67,7 +69,7 @@ pub zero-no-low : isLow 0 ≡ false
 unfolding isLow
 zero-no-low = refl
 
-pub behind-none : (i b : ℕ) (us : List ℕ) → isHigh b ≡ false → unpairedFrom i b us ≡ unpairedFrom i 0 us
+behind-none : (i b : ℕ) (us : List ℕ) → isHigh b ≡ false → unpairedFrom i b us ≡ unpairedFrom i 0 us
 behind-none i b us h = behind-by i b us (h ∙ sym zero-plain)
 
 module _ (i u : ℕ) (us : List ℕ) where

@@ -1,21 +1,20 @@
 -- The unpaired units by their places are those that the list of them has: a unit in no pair is, between its neighbours, `unpaired`.
 --     first-is       the first of the list is the first unpaired unit
 --     is-first       the first unpaired unit is the first of the list
---     some-listed    a unit is unpaired exactly if the list is not empty
+--     some, any, some-listed          a unit is unpaired exactly if the list is not empty
+--     first-inside   the first unpaired unit is one of the units
 --     start-paired, longer-unpaired   the units before the first unpaired one hold none, and those of any longer start do
 use Prim.Native.Nat.{ℕ, zero, suc, _+_, _-_, _≤_, _<_}
 use mathlib.Core.Path.{_≡_, refl, sym, ap, _∙_}
-use mathlib.Core.Bool.{Bool, true, false, not, cond, _&&_, _||_}
+use mathlib.Core.Bool.{Bool, true, false, not, _&&_, _||_}
 use mathlib.Core.List.{List, [], _∷_}
 use native.Mathlib.Omega.{arith}
-use native.Mathlib.Nat.{add-zero, zero-add, add-suc}
 use native.Mathlib.Numerals.{add-one}
 use borrow.Author.Tests.{lt-ltb}
-use lib.Dec.{ltb}
 use lib.ListN.{length, getD, take, length-take, List·getD-eq-default}
 use lib.Seq.{getD-take}
 use Rattle.common.proofs.Kit.{never, by, by-lt}
-use Rattle.utf16.specs.Reading.{isHigh, isLow, pairAt, unpairedAt, FirstUnpaired, unpaired, next, unpairedFrom, unpairedIn}
+use Rattle.utf16.specs.Reading.{isHigh, isLow, unpairedAt, FirstUnpaired, unpaired, next, unpairedFrom, unpairedIn}
 use Rattle.utf16.proofs.Pairs.{high-not-low, low-not-high, zero-plain, zero-no-low}
 
 -- ---- one place

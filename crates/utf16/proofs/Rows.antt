@@ -1,18 +1,17 @@
 -- The rows of Table 3-5, and the bytes of a text character by character.
 --     row-one, row-two     a character's units: itself, or a pair as RFC 2781, 2.1, makes it, by the 20 bits of c - 10000
---     serial-append        the bytes of units in two parts
 --     length-serial        two bytes a unit
 --     length-units-of      one unit or two
 --     utf16-cons           a text's bytes are its first character's, and those of the others
 use Prim.Native.Nat.{ℕ, _+_, _-_, _*_, _/_, _%_, _≤_, _<_}
-use mathlib.Core.Path.{_≡_, refl, sym, _∙_}
+use mathlib.Core.Path.{_≡_, refl}
 use mathlib.Core.List.{List, [], _∷_, _++_}
 use native.Mathlib.Omega.{arith}
-use borrow.Author.Tests.{lt-ltb, le-ltb, le-leb}
-use lib.ListN.{length, length-append}
+use borrow.Author.Tests.{lt-ltb, le-ltb}
+use lib.ListN.{length}
 use Rattle.common.proofs.Kit.{by-lt}
 use Rattle.utf16.specs.declared.ByteOrder.{ByteOrder}
-use Rattle.utf16.specs.Utf16.{unitsOf, unitsAll, firstByte, secondByte, serialised, utf16Of}
+use Rattle.utf16.specs.Utf16.{unitsOf, unitsAll, serialised, utf16Of}
 
 -- ---- a character's units
 -- "The Unicode Standard defines both forms.": a character up to FFFF is its own unit
@@ -38,7 +37,7 @@ length-units-of c = by-lt c 0x10000 (λ h. rw (row-one c h) (omega arith, omega 
 
 -- ---- bytes
 module _ (o : ByteOrder) where
-  pub serial-append : (us vs : List ℕ) → serialised o (us ++ vs) ≡ serialised o us ++ serialised o vs
+  serial-append : (us vs : List ℕ) → serialised o (us ++ vs) ≡ serialised o us ++ serialised o vs
   serial-append [] vs = refl
   serial-append (u ∷ us) vs = rw (serial-append us vs)
 

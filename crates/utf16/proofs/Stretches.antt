@@ -1,23 +1,22 @@
 -- Stretches: of units without surrogates, found by their bytes; of characters that have one unit.
---     plain-unit     a unit whose bytes are both outside D8..DF is no surrogate
 --     to-here        no unit
 --     to-more        a block more
 --     plain-list     such units give themselves, and then what the others give
 --     short-here, short-more, short-list   the same of characters of one unit
-use Prim.Native.Nat.{ℕ, zero, suc, _+_, _-_, _*_, _/_, _≤_, _<_}
-use mathlib.Core.Path.{_≡_, refl, sym, ap, _∙_}
-use mathlib.Core.Bool.{Bool, true, false, not, _&&_, _||_}
+use Prim.Native.Nat.{ℕ, zero, suc, _+_, _*_, _/_, _≤_, _<_}
+use mathlib.Core.Path.{_≡_, refl, ap, _∙_}
+use mathlib.Core.Bool.{true, false, _&&_, _||_}
 use mathlib.Core.List.{List, [], _∷_, _++_}
 use native.Mathlib.Omega.{arith}
-use borrow.Author.Tests.{le-leb, lt-leb, leb-true, not-true}
+use borrow.Author.Tests.{le-leb, lt-leb}
 use lib.Dec.{leb}
 use lib.ListN.{length, getD, take, drop}
-use Rattle.common.proofs.Kit.{never, by, by-lt, both-true, both}
+use Rattle.common.proofs.Kit.{never, by-lt}
 use Rattle.common.proofs.Places.{none, joined}
 use Rattle.utf16.specs.declared.ByteOrder.{ByteOrder}
 use Rattle.utf16.specs.declared.ByteOrder.the-variants.{Little, Big}
 use Rattle.utf16.specs.Utf16.{firstByte, secondByte, serialised, utf16Of}
-use Rattle.utf16.specs.Reading.{unitOf, unitsIn, isHigh, isLow, charsIn}
+use Rattle.utf16.specs.Reading.{unitOf, isHigh, isLow, charsIn}
 use Rattle.utf16.specs.Promises.{Bytes}
 use Rattle.utf16.specs.Inner.{plainByte, PlainBytes, PlainTo, OneUnit, OneUnitTo}
 use Rattle.utf16.proofs.Units.{unit-at}

@@ -1,21 +1,21 @@
--- Characters as units, and back: `units-read` by going through the characters, `chars-read` by going through the units, a pair at once.
---     pair-units        a pair is the units of the character that it gives; units-char, the other way
---     units-read        the units of characters hold no unpaired surrogate and give the characters
---     chars-read        units without an unpaired surrogate are those of the characters they give
---     encodes-exactly   bytes encode characters exactly where they are even in number, hold no unpaired surrogate and give them
+-- Characters as units, and back. The units of characters hold no unpaired surrogate and give the characters (`units-read`, by going
+-- through the characters); units without an unpaired surrogate are those of the characters they give (`chars-read`, by going through the
+-- units, a pair at once).
+--     char-itself       a unit that is no high surrogate gives itself
+--     Decodes           bytes are even in number, hold no unpaired surrogate and give these characters
+--     decodes-of, encodes-of, encodes-exactly   bytes encode characters exactly where they are even in number, hold no unpaired surrogate and give them
 use Prim.Native.Nat.{ℕ, suc, _+_, _-_, _*_, _/_, _%_, _≤_, _<_}
 use mathlib.Core.Path.{_≡_, refl, sym, ap, _∙_}
-use mathlib.Core.Bool.{Bool, true, false, cond, _&&_, _||_}
-use mathlib.Core.List.{List, [], _∷_, _++_}
+use mathlib.Core.Bool.{true, false, _&&_, _||_}
+use mathlib.Core.List.{List, [], _∷_}
 use mathlib.Core.Logic.{_↔_}
 use native.Mathlib.Omega.{arith}
-use borrow.Author.Tests.{le-leb, lt-leb}
-use lib.ListN.{length, getD}
+use lib.ListN.{length}
 use Rattle.common.proofs.Kit.{never, by, by-lt, both-true, both}
 use Rattle.unicode.specs.Chars.{isChar, areChars}
 use Rattle.unicode.proofs.Rows.{char-lt, char-gap, char-low, char-high}
 use Rattle.utf16.specs.declared.ByteOrder.{ByteOrder}
-use Rattle.utf16.specs.Utf16.{unitsOf, unitsAll, serialised, utf16Of, Encodes}
+use Rattle.utf16.specs.Utf16.{unitsOf, unitsAll, utf16Of, Encodes}
 use Rattle.utf16.specs.Reading.{unitsIn, isHigh, isLow, next, unpairedFrom, unpairedIn, charOf, charsIn}
 use Rattle.utf16.specs.Promises.{Bytes}
 use Rattle.utf16.proofs.Units.{units-back, bytes-back, Sixteen, units-low}
@@ -80,7 +80,7 @@ module _ (c : ℕ) (g : 0x10000 ≤ c) (h : c < 0x110000) where
 abbrev Give : ℕ → List ℕ → List ℕ → Type 0
 Give i us cs = (unpairedFrom i 0 us ≡ []) × (charsIn us ≡ cs)
 
-pub units-read : (cs : List ℕ) (i : ℕ) → areChars cs ≡ true → Give i (unitsAll cs) cs
+units-read : (cs : List ℕ) (i : ℕ) → areChars cs ≡ true → Give i (unitsAll cs) cs
 units-read [] i s = (refl, refl)
 units-read (c ∷ cs) i s =
     let t = both-true (isChar c) (areChars cs) s in
@@ -113,7 +113,7 @@ pair-written u v us p q w =
 no-unpaired : (i u : ℕ) (us : List ℕ) → isHigh u || isLow u ≡ true → isHigh u && isLow (next us) ≡ false → unpairedFrom i 0 (u ∷ us) ≡ [] → ⊥
 no-unpaired i u us s n e = let l = sym (unpaired-turn i u us s n) ∙ e in omega (arith, ap length l)
 
-pub chars-read : (us : List ℕ) (i : ℕ) → Sixteen us → unpairedFrom i 0 us ≡ [] → Written us
+chars-read : (us : List ℕ) (i : ℕ) → Sixteen us → unpairedFrom i 0 us ≡ [] → Written us
 chars-read [] i k e = (refl, refl)
 chars-read (u ∷ []) i k e =
     by (isHigh u || isLow u)

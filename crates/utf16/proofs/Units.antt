@@ -6,7 +6,7 @@
 --     units-take, bytes-take     the units of a start of the bytes; they are bytes
 --     units-back                 units as bytes, read again
 --     bytes-back                 an even number of bytes as units, written again
---     units-low                  units of bytes have 16 bits
+--     Sixteen, units-low         each unit of a list has 16 bits; those of bytes do
 use Prim.Native.Nat.{ℕ, zero, suc, _+_, _*_, _/_, _%_, _≤_, _<_}
 use mathlib.Core.Path.{_≡_, refl, sym, ap, _∙_}
 use mathlib.Core.List.{List, [], _∷_}
@@ -44,7 +44,7 @@ two-more : (n : ℕ) → 2 * suc n ≡ suc (suc (2 * n))
 two-more n = omega arith
 
 -- the unit whose bytes stand from a place on
-abbrev pub unitFrom : ByteOrder → List ℕ → ℕ → ℕ
+abbrev unitFrom : ByteOrder → List ℕ → ℕ → ℕ
 unitFrom o bs at = unitOf o (getD bs at 0) (getD bs (at + 1) 0)
 
 from-more : (o : ByteOrder) (a b : ℕ) (bs : List ℕ) (at : ℕ) → unitFrom o (a ∷ b ∷ bs) (suc (suc at)) ≡ unitFrom o bs at
@@ -59,7 +59,7 @@ unit-at o (a ∷ b ∷ bs) zero h = refl
 unit-at o (a ∷ b ∷ bs) (suc i) h =
     unit-at o bs i (omega arith) ∙ sym (from-more o a b bs (2 * i)) ∙ ap (unitFrom o (a ∷ b ∷ bs)) (sym (two-more i))
 
-pub unit-low : (o : ByteOrder) (a b : ℕ) → a < 256 → b < 256 → unitOf o a b < 0x10000
+unit-low : (o : ByteOrder) (a b : ℕ) → a < 256 → b < 256 → unitOf o a b < 0x10000
 unit-low Big a b h g = omega arith
 unit-low Little a b h g = omega arith
 

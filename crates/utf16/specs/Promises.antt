@@ -67,8 +67,7 @@ pub record RoundTrips (o : ByteOrder) : Type 0 where
       (out : List ℕ) → length cs ≤ length out →
       (refusalIn (decodeAnswer o bs out) ≡ 0) × (wroteIn (decodeAnswer o bs out) (decodePlaces o bs out) ≡ cs)
 
--- a text of characters is the same read from either kind of file, and so is all that is made of it: what reading UTF-16 leaves is what
--- decoding UTF-8 gives
+-- a text of characters is the same read from either kind of file: what reading its UTF-16 leaves is what decoding its UTF-8 gives
 abbrev pub SameText : ByteOrder → List ℕ → Type 0
 SameText o cs =
     (bs out : List ℕ) → Encodes o bs cs → length cs ≤ length out →

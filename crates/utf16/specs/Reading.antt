@@ -21,15 +21,15 @@ unitsIn o (a ∷ []) = []
 unitsIn o (a ∷ b ∷ bs) = unitOf o a b ∷ unitsIn o bs
 
 -- ---- surrogates
--- a high-surrogate code unit: D72
+-- a high-surrogate code unit: Unicode Standard, section 3.8, D72
 unfoldable pub isHigh : ℕ → Bool
 isHigh u = leb 0xD800 u && leb u 0xDBFF
 
--- a low-surrogate code unit: D74
+-- a low-surrogate code unit: Unicode Standard, section 3.8, D74
 unfoldable pub isLow : ℕ → Bool
 isLow u = leb 0xDC00 u && leb u 0xDFFF
 
--- a surrogate pair stands at place i: D75, a high-surrogate code unit and then a low-surrogate code unit
+-- a surrogate pair stands at place i: Unicode Standard, section 3.8, D75, a high-surrogate code unit and then a low-surrogate code unit
 abbrev pub pairAt : List ℕ → ℕ → Bool
 pairAt us i = isHigh (getD us i 0) && isLow (getD us (i + 1) 0)
 

@@ -1,4 +1,4 @@
--- UTF-16 as the Unicode Standard defines it, chapter 3: the units that encode a character (D91), and the bytes of a unit in either order
+-- UTF-16 as the Unicode Standard 15.0 defines it, sections 3.9 and 3.10: the units that encode a character (D91), and the bytes of a unit in either order
 -- (D96, D97). "The Unicode Standard defines both forms." Document 02, A.3.
 use Prim.Native.Nat.{ℕ, _+_, _-_, _*_, _/_, _%_}
 use mathlib.Core.Path.{_≡_}

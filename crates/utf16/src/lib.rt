@@ -1,5 +1,6 @@
 // UTF-16 in either byte order: a whole run of bytes read as characters, and characters written as bytes. Document 02, A.3. Stands for
-// `char::decode_utf16` and `char::encode_utf16`; these go by units of 16 bits, and this by the bytes of each.
+// `char::decode_utf16` and `char::encode_utf16`, which go by units of 16 bits, and this by the bytes of each; and where the former goes
+// on behind an unpaired surrogate, this refuses the run, so that nothing is read in part.
 use common::Answer;
 use common::NO_ROOM;
 use common::NOT_A_CHAR;
@@ -55,7 +56,7 @@ fn unit_at(order: ByteOrder, bytes: &[u8], i: usize) -> u32
 }
 
 // The same for any place: 0 where there is no unit.
-fn unit_or_none(order: ByteOrder, bytes: &[u8], i: usize) -> u32
+fn unit_or_zero(order: ByteOrder, bytes: &[u8], i: usize) -> u32
     ensures { λ r. ⌜ (r ≡ getD (unitsIn order (now (bytes .entry))) i 0) × (r < 0x10000) ⌝ }
 {
     if i < bytes.len() / 2 {
@@ -89,8 +90,8 @@ enum Found {
     Unpaired(usize),
 }
 
-// Whether none of so many bytes from `at` on is one of D8..DF: every surrogate has one. The loop has no early exit, so that it can be
-// vectorised.
+// True only if none of so many bytes from `at` on is one of D8..DF: every surrogate has one. The loop has no early exit, so that it can
+// be vectorised.
 fn is_plain_block(bytes: &[u8], at: usize, size: usize) -> bool
     requires { ⌜ at + size ≤ length (now bytes) ⌝ }
     ensures { λ r. ⌜ (r ≡ true → PlainBytes (now (bytes .entry)) at (at + size)) ⌝ }
@@ -105,8 +106,8 @@ fn is_plain_block(bytes: &[u8], at: usize, size: usize) -> bool
     good
 }
 
-// A place up to which no unit from `from` on is a surrogate, in whole blocks of 16. The block's bytes are a number here, by which the
-// loop of `is_plain_block` is unrolled.
+// A place up to which no unit from `from` on is a surrogate, in whole blocks of 16; it need not be the last such place. The size of a
+// block is a constant, so that the compiler can unroll the loop of `is_plain_block`.
 fn plain_end(bytes: &[u8], from: usize) -> usize
     requires { ⌜ from ≤ length (now bytes) / 2 ⌝ }
     ensures { λ r. ⌜ PlainTo (now (bytes .entry)) from r ⌝ }
@@ -146,7 +147,7 @@ fn look_over(order: ByteOrder, bytes: &[u8]) -> Found
         while i < stop {
             let u = unit_at(order, bytes, i);
             if is_surrogate(u) {
-                if !(is_high(u) & is_low(unit_or_none(order, bytes, i + 1))) {
+                if !(is_high(u) & is_low(unit_or_zero(order, bytes, i + 1))) {
                     return Found::Unpaired(i);
                 }
                 pairs += 1;
@@ -164,7 +165,7 @@ fn char_at(order: ByteOrder, bytes: &[u8], u: u32, i: usize) -> u32
     ensures { λ r. ⌜ r ≡ charOf u (getD (unitsIn order (now (bytes .entry))) i 0) ⌝ }
 {
     if is_high(u) {
-        let after = unit_or_none(order, bytes, i);
+        let after = unit_or_zero(order, bytes, i);
         return 0x10000 + u % 0x400 * 0x400 + after % 0x400;
     }
     u
@@ -265,7 +266,7 @@ fn put_char(order: ByteOrder, c: u32, out: &mut [u8], at: usize) -> usize
     at + 4
 }
 
-// Whether so many characters from `at` on are below 10000, and so have one unit. The loop has no early exit, so that it can be
+// True only if so many characters from `at` on are below 10000, and so have one unit. The loop has no early exit, so that it can be
 // vectorised.
 fn is_short_block(chars: &[u32], at: usize, size: usize) -> bool
     requires { ⌜ at + size ≤ length (now chars) ⌝ }
@@ -280,7 +281,7 @@ fn is_short_block(chars: &[u32], at: usize, size: usize) -> bool
     good
 }
 
-// A place up to which every character from `from` on has one unit, in whole blocks of 16.
+// A place up to which every character from `from` on has one unit, in blocks as those of `plain_end`.
 fn short_end(chars: &[u32], from: usize) -> usize
     requires { ⌜ from ≤ length (now chars) ⌝ }
     ensures { λ r. ⌜ OneUnitTo (now (chars .entry)) from r ⌝ }

@@ -195,8 +195,8 @@ fn text(random: &mut Random, is_long: bool) -> Vec<char> {
     (0..random.below(most + 1)).map(|_| utf8::character(random)).collect()
 }
 
-/// One damage, to a unit or to a byte: one put in, taken out, taken twice or exchanged, a bit turned, the end cut off; or the bytes of
-/// every unit exchanged.
+/// One damage: a unit put in, exchanged or taken out, a bit turned, a byte taken out, the end cut off, or the bytes of every unit
+/// exchanged.
 fn damaged(random: &mut Random, order: Order, mut bytes: Vec<u8>) -> Vec<u8> {
     let unit = order.bytes(random.pick(&EDGES));
     if bytes.is_empty() {

@@ -1,5 +1,4 @@
 -- `utf16::char_at` meets its contract: its test is `charOf`'s.
-use mathlib.Core.Path.{_∙_, sym}
 use borrow.Author.Needs.{needs}
 use Rattle.utf16.specs.Reading.{charOf}
 use Rattle.utf16.proofs.char_at.Statement.{statement}
@@ -7,7 +6,7 @@ use Rattle.utf16.proofs.char_at.Tie as tie
 
 returns : tie.Need-returns
 unfolding charOf
-returns c = simp (c .before .if1 .taken, ← c .before .before .is-high .ensures, ← c .unit-or-none .ensures .0)
+returns c = simp (c .before .if1 .taken, ← c .before .before .is-high .ensures, ← c .unit-or-zero .ensures .0)
 
 returns-2 : tie.Need-returns-2
 unfolding charOf

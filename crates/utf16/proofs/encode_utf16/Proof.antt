@@ -7,7 +7,7 @@ use native.Mathlib.Omega.{arith}
 use borrow.Author.Needs.{needs}
 use borrow.Author.Tests.{le-ltb, lt-ltb}
 use lib.ListN.{length}
-use lib.Seq.{sets, length-sets}
+use lib.Seq.{sets}
 use Rattle.unicode.specs.Chars.{areChars}
 use Rattle.utf16.specs.declared.ByteOrder.{ByteOrder}
 use Rattle.utf16.specs.Utf16.{utf16Of}

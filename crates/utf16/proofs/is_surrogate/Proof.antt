@@ -1,5 +1,4 @@
 -- `utf16::is_surrogate` meets its contract: D800..DBFF and DC00..DFFF adjoin.
-use native.Mathlib.Omega.{arith}
 use mathlib.Core.Path.{sym}
 use Rattle.utf16.proofs.Pairs.{surrogate-range}
 use Rattle.utf16.proofs.is_surrogate.Statement.{statement}

@@ -5,19 +5,19 @@ use mathlib.Core.Bool.{true, false, _&&_, _||_}
 use mathlib.Core.List.{List, [], _∷_}
 use mathlib.Core.Path.{_≡_, refl, sym, ap, _∙_}
 use native.Mathlib.Nat.{zero-add, add-zero}
-use native.Mathlib.Numerals.{add-one, towards-suc}
+use native.Mathlib.Numerals.{add-one}
 use native.Mathlib.Omega.{arith}
 use borrow.Author.Needs.{needs}
 use borrow.Author.Tests.{not-true, not-false}
 use lib.ListN.{length, getD, drop, List·getD-eq-default}
 use lib.Seq.{drop-cons, drop-length, getD-drop}
-use Rattle.common.proofs.Kit.{never, by, by-lt, both-true}
+use Rattle.common.proofs.Kit.{by-lt, both-true}
 use Rattle.utf16.specs.declared.ByteOrder.{ByteOrder}
 use Rattle.utf16.specs.declared.Found.the-variants.{Paired, Unpaired}
 use Rattle.utf16.specs.Reading.{unitsIn, isHigh, isLow, next, unpairedFrom, unpairedIn}
 use Rattle.utf16.specs.Inner.{lows, foundIn, PlainTo}
 use Rattle.utf16.proofs.Units.{length-units, units-inside, units-past}
-use Rattle.utf16.proofs.Pairs.{neither, plain-turn, pair-turn, unpaired-turn, high-bounds, low-bounds}
+use Rattle.utf16.proofs.Pairs.{neither, plain-turn, pair-turn, unpaired-turn, low-bounds}
 use Rattle.utf16.proofs.look_over.Statement.{statement}
 use Rattle.utf16.proofs.look_over.Tie as tie
 
@@ -142,7 +142,7 @@ returns c =
     let a = x .before .before .before .before .before .before .args in
     found _ _ _ (x .loop2 .inv .0) (units-inside (a .order) (a .bytes .now) _ (omega (arith, unit .before .loop2-test .taken, x .before .steps-end .ensures .0)))
     (rw (← unit .unit-at .ensures .0, ← high .before .before .is-surrogate .ensures) (high .before .if1 .taken))
-    (rw (← unit .unit-at .ensures .0, ← after .unit-or-none .ensures .0, ← high .is-high .ensures, ← c .before .is-low .ensures) (not-true _ (c .if2 .taken)))
+    (rw (← unit .unit-at .ensures .0, ← after .unit-or-zero .ensures .0, ← high .is-high .ensures, ← c .before .is-low .ensures) (not-true _ (c .if2 .taken)))
 
 add-pairs : tie.Need-add-pairs Inv-loop2 μ-loop2 Inv-loop μ-loop
 add-pairs c =
@@ -159,7 +159,7 @@ loop2-again c =
     let a = x .before .before .before .before .before .before .args in (
       pair _ _ _ (x .loop2 .inv .0)
           (units-inside (a .order) (a .bytes .now) _ (omega (arith, l .loop2-test .taken, x .before .steps-end .ensures .0)))
-          (rw (← unit .unit-at .ensures .0, ← after .unit-or-none .ensures .0, ← high .is-high .ensures, ← c .before .is-low .ensures) (not-false _ (c .if2 .left))),
+          (rw (← unit .unit-at .ensures .0, ← after .unit-or-zero .ensures .0, ← high .is-high .ensures, ← c .before .is-low .ensures) (not-false _ (c .if2 .left))),
       omega (arith, x .loop2 .inv .1),
     )
 

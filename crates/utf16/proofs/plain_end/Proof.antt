@@ -1,7 +1,6 @@
 -- `utf16::plain_end` meets its contract: no unit before the place at hand is a surrogate.
 use Prim.Native.Nat.{_-_}
 use native.Mathlib.Omega.{arith}
-use borrow.Author.Needs.{needs}
 use borrow.Author.Tests.{not-false}
 use Rattle.utf16.specs.Inner.{PlainTo}
 use Rattle.utf16.proofs.Stretches.{to-here, to-more}

@@ -16,17 +16,17 @@ use Rattle.utf16.specs.Inner.{OneUnitTo}
 use Rattle.utf16.proofs.put_short.Statement.{statement}
 use Rattle.utf16.proofs.put_short.Tie as tie
 
-record Storing (o : ByteOrder) (run out₀ : List ℕ) (at : ℕ) (out : List ℕ) (j : ℕ) : Type 0 where
+record StoringUnits (o : ByteOrder) (run out₀ : List ℕ) (at : ℕ) (out : List ℕ) (j : ℕ) : Type 0 where
   low : j ≤ length run
   room : at + 2 * length run ≤ length out
   same : length out ≡ length out₀
   left : sets out (at + 2 * j) (serialised o (drop j run)) ≡ sets out₀ at (serialised o run)
 
-begin : (o : ByteOrder) (run out : List ℕ) (at : ℕ) → at + 2 * length run ≤ length out → Storing o run out at out 0
+begin : (o : ByteOrder) (run out : List ℕ) (at : ℕ) → at + 2 * length run ≤ length out → StoringUnits o run out at out 0
 begin o run out at h = record { low = omega arith; room = h; same = refl; left = rw add-zero }
 
-module _ (o : ByteOrder) (run out₀ : List ℕ) (at : ℕ) (out : List ℕ) (j : ℕ) (g : Storing o run out₀ at out j) where
-  again : (c : ℕ) → j < length run → c ≡ getD run j 0 → Storing o run out₀ at (sets out (at + 2 * j) (firstByte o c ∷ secondByte o c ∷ [])) (j + 1)
+module _ (o : ByteOrder) (run out₀ : List ℕ) (at : ℕ) (out : List ℕ) (j : ℕ) (g : StoringUnits o run out₀ at out j) where
+  again : (c : ℕ) → j < length run → c ≡ getD run j 0 → StoringUnits o run out₀ at (sets out (at + 2 * j) (firstByte o c ∷ secondByte o c ∷ [])) (j + 1)
   again c h e =
       let two = firstByte o c ∷ secondByte o c ∷ [] in
       let l : drop j run ≡ c ∷ drop (j + 1) run = rw (e, add-one) (drop-cons run j 0 h) in
@@ -58,7 +58,7 @@ module _ (cs : List ℕ) (from end : ℕ) (t : OneUnitTo cs from end) where
   run-at j l = sym (getD-take (end - from) (drop from cs) j 0 l ∙ getD-drop from cs j 0)
 
 abbrev Inv-loop : tie.InvT-loop
-Inv-loop order chars from end out₀ at j₀ out j = Storing order (take (end - from) (drop from chars)) out₀ at out j
+Inv-loop order chars from end out₀ at j₀ out j = StoringUnits order (take (end - from) (drop from chars)) out₀ at out j
 
 abbrev μ-loop : tie.MeasureT-loop
 μ-loop order chars from end out₀ at j₀ out j = end - from - j

@@ -2,7 +2,6 @@
 use Prim.Native.Nat.{_-_}
 use native.Mathlib.Omega.{arith}
 use lib.ListN.{length}
-use borrow.Author.Needs.{needs}
 use borrow.Author.Tests.{not-false}
 use Rattle.utf16.specs.Inner.{OneUnitTo}
 use Rattle.utf16.proofs.Stretches.{short-here, short-more}

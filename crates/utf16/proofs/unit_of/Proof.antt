@@ -1,5 +1,4 @@
 -- `utf16::unit_of` meets its contract: each order has its sum.
-use mathlib.Core.Path.{refl}
 use native.Mathlib.Omega.{arith}
 use borrow.Author.Needs.{needs}
 use Rattle.utf16.proofs.unit_of.Statement.{statement}
