@@ -1,43 +1,15 @@
 -- `ascii_block` meets its contract: where the flag holds, all bytes that were tested are below 80.
-use Prim.Native.Nat.{ℕ, _+_, _-_, _≤_, _<_}
-use mathlib.Core.Path.{_≡_}
-use mathlib.Core.Bool.{Bool, true, _&&_}
-use mathlib.Core.List.{List}
-use lib.Dec.{ltb}
+use Prim.Native.Nat.{ℕ, _-_, _<_}
+use borrow.Author.Tests.{ltb-true}
 use lib.ListN.{getD}
 use native.Mathlib.Omega.{arith}
 use borrow.Author.Needs.{needs}
-use borrow.Author.Tests.{ltb-true}
-use Rattle.unicode.specs.Inner.{Ascii}
-use Rattle.common.proofs.Kit.{both-true}
-use Rattle.common.proofs.Places.{none, more}
+use Rattle.common.proofs.Tested.{Tested, begin, again, ended}
 use Rattle.unicode.proofs.utf8.ascii_block.Statement.{statement}
 use Rattle.unicode.proofs.utf8.ascii_block.Tie as tie
 
-record Good (bs : List ℕ) (at size : ℕ) (good : Bool) (tested : ℕ) : Type 0 where
-  each : good ≡ true → Ascii bs at (at + tested)
-  low : tested ≤ size
-
--- where no byte was tested, nothing is said
-begin : (bs : List ℕ) (at size tested : ℕ) → tested ≤ 0 → Good bs at size true tested
-begin bs at size tested h = record { each = λ t. none (λ x. getD bs x 0 < 0x80) at (at + tested) (omega arith); low = omega arith }
-
-again : (bs : List ℕ) (at size : ℕ) (good : Bool) (j : ℕ) → Good bs at size good j → j < size
-    → Good bs at size (good && ltb (getD bs (at + j) 0) 0x80) (j + 1)
-again bs at size good j g l =
-    record {
-      each = λ t.
-          let x = both-true good (ltb (getD bs (at + j) 0) 0x80) t in
-          let e : at + (j + 1) ≡ at + j + 1 = omega arith in
-          rw e (more (λ y. getD bs y 0 < 0x80) at (at + j) (g .each (x .0)) (ltb-true _ _ (x .1)));
-      low = omega arith;
-    }
-
-ended : (bs : List ℕ) (at size : ℕ) (good : Bool) (j : ℕ) → Good bs at size good j → size ≤ j → good ≡ true → Ascii bs at (at + size)
-ended bs at size good j g l t = let e : j ≡ size = omega (arith, g .low) in rw e at (g .each t)
-
 abbrev Inv-loop : tie.InvT-loop
-Inv-loop bytes at size good₀ tested₀ good tested = Good bytes at size good tested
+Inv-loop bytes at size good₀ tested₀ good tested = Tested (λ x. getD bytes x 0 < 0x80) at size good tested
 
 abbrev μ-loop : tie.MeasureT-loop
 μ-loop bytes at size good₀ tested₀ good tested = size - tested
@@ -53,5 +25,5 @@ ascii-block-spec =
     (λ c. search needs)
     (λ c. search needs)
     (λ c. search needs)
-    (λ c. again _ _ _ _ _ (c .before .before .loop .inv) (c .before .loop-test .taken))
+    (λ c. again _ _ _ _ _ (c .before .before .loop .inv) (c .before .loop-test .taken) _ (ltb-true _ _))
     (λ c. ended _ _ _ _ _ (c .before .loop .inv) (c .loop-test .left)))
