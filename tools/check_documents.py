@@ -59,6 +59,7 @@ NO_PROOF = {
     "Forty brokers now": "it says what the check of a run is for",
     "Read-only memory is short": "it says what the packing is for; how much is saved: docs/MEASURED.md",
     "Two administration systems": "it says what UTF-16 is for; the two orders are those of ByteOrder (utf16)",
+    "The import job plans": "it says what asking is for",
 }
 
 # The files of specs/ whose definitions a theorem ties to another source, so that no wrong reading of the one passes by itself.

@@ -1,4 +1,4 @@
-//! The original Rust made runnable, with what document 01 adds around it.
+//! The original Rust made runnable, with what the documents add around it.
 //!
 //! The modules of the original stand at this root. `build.rs` reads and changes them; none of their text is here. This
 //! one crate takes the names of the two crates of the original and of the two that it leans on and that are missing.

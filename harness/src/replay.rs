@@ -101,6 +101,19 @@ impl Oracle {
                 let answer = self.scanner.scan(self.page, nel, lsps, places, &chunk);
                 self.appended(answer)
             }
+            ["commit", options, places, chunk @ ..] => {
+                let (nel, lsps) = options_of(options)?;
+                let (places, chunk) = (room(places)?, numbers(chunk)?);
+                let answer = self.scanner.commit(self.page, nel, lsps, places, &chunk);
+                self.appended(answer)
+            }
+            ["ask", options, chunk @ ..] => {
+                let (nel, lsps) = options_of(options)?;
+                match self.scanner.ask(self.page, nel, lsps, &numbers(chunk)?) {
+                    Ok(places) => format!("ok n={places:x}"),
+                    Err(number) => format!("no {number}"),
+                }
+            }
             ["fin", how @ ("p" | "e"), places] => {
                 let answer = self.scanner.finish(*how == "e", room(places)?);
                 self.appended(answer)

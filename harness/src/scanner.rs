@@ -1,5 +1,6 @@
-//! Scan, finish and filling of document 01 over the original's `TextInput`, of which this is a child module. The
-//! conversions are `process_raw_string` and `read_with_status`; the refusals and the count are document 01's.
+//! Scan, finish and filling of document 01 over the original's `TextInput`, of which this is a child module, with asking and
+//! committing of document 02 (A.4). The conversions are `process_raw_string` and `read_with_status`; the refusals and the count
+//! are the documents'.
 
 use super::{State, TextInput};
 use crate::words::characters;
@@ -81,26 +82,51 @@ fn reader(status: Status) -> TextReader<Source> {
 impl Scanner {
     /// Takes a chunk, and answers how many characters it appends. "Order: 2, 1, 10, 8."
     pub fn scan(&mut self, page: bool, nel: bool, lsps: bool, room: usize, chunk: &[u32]) -> Result<usize, u32> {
-        if !page {
-            return Err(2);
-        }
-        let characters = chunk.iter().map(|value| char::from_u32(*value));
-        if characters.clone().any(|c| c.is_none()) {
-            return Err(1);
-        }
-        // "10 the count would pass 4,294,967,295"
-        let taken = u32::try_from(chunk.len()).map_err(|_| 10u32)?;
-        let count = self.count.checked_add(taken).ok_or(10u32)?;
+        self.refuse(page, chunk)?;
         if room < needed(chunk) {
             return Err(8);
         }
-        self.count = count;
+        Ok(self.take(nel, lsps, chunk))
+    }
+
+    /// How many characters a chunk would append: as many as it appends to a copy. "Asking changes nothing and is refused by 2, 1
+    /// and 10 as a scan is."
+    pub fn ask(&self, page: bool, nel: bool, lsps: bool, chunk: &[u32]) -> Result<usize, u32> {
+        self.refuse(page, chunk)?;
+        let mut copy = Self::default();
+        copy.put(self.record());
+        Ok(copy.take(nel, lsps, chunk))
+    }
+
+    /// Takes a chunk as a scan does. "8 stands there for fewer places than the true number."
+    pub fn commit(&mut self, page: bool, nel: bool, lsps: bool, room: usize, chunk: &[u32]) -> Result<usize, u32> {
+        if room < self.ask(page, nel, lsps, chunk)? {
+            return Err(8);
+        }
+        Ok(self.take(nel, lsps, chunk))
+    }
+
+    /// The refusals by 2, 1 and 10.
+    fn refuse(&self, page: bool, chunk: &[u32]) -> Result<(), u32> {
+        if !page {
+            return Err(2);
+        }
+        characters(chunk).ok_or(1u32)?;
+        // "10 the count would pass 4,294,967,295"
+        let taken = u32::try_from(chunk.len()).map_err(|_| 10u32)?;
+        self.count.checked_add(taken).ok_or(10u32)?;
+        Ok(())
+    }
+
+    /// `process_raw_string` on a chunk that is not refused, and how many characters it appends.
+    fn take(&mut self, nel: bool, lsps: bool, chunk: &[u32]) -> usize {
+        self.count += chunk.len() as u32;
         let input = &mut self.reader.input;
         input.nel_compatibility = nel;
         input.lsps_compatibility = lsps;
         input.raw_string.clear();
-        input.raw_string.extend(characters.flatten());
-        Ok(self.appended(|reader| reader.input.process_raw_string()))
+        input.raw_string.extend(chunk.iter().filter_map(|value| char::from_u32(*value)));
+        self.appended(|reader| reader.input.process_raw_string())
     }
 
     /// Finishes, as end of file or as a push, and answers how many characters it appends.

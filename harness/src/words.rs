@@ -61,6 +61,12 @@ pub fn listed(answer: &str) -> Vec<u32> {
     list.into_iter().flat_map(|list| list.split(',')).filter_map(|word| number(word).ok()).collect()
 }
 
+/// The number after `n=` in an answer: of asking the places that a chunk fills, of a call the characters that it wrote.
+pub fn numbered(answer: &str) -> Option<usize> {
+    let number = answer.split(' ').find_map(|word| word.strip_prefix("n="))?;
+    usize::from_str_radix(number, 16).ok()
+}
+
 /// A list of characters.
 pub fn characters_list(characters: &[char]) -> String {
     list(characters.iter().copied().map(u32::from))

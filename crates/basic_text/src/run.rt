@@ -17,7 +17,7 @@ ghost use Rattle.text_input.specs.Scan.{runOf, skipped};
 ghost use Rattle.text_input.specs.Inner.{outs, ranBy};
 ghost use Rattle.basic_text.specs.Exports.{numbersOf, bytesOf};
 
-// How many characters of the chunk are dropped: a leading FEFF, where no scan was accepted before. Total.
+// How many characters of the chunk are dropped: a leading FEFF, where no chunk was accepted before. Total.
 pub fn skips(r: TextInput, chunk: &[u8]) -> usize
     ensures { λ n. ⌜ n ≡ skipped r (numbersOf (now (chunk .entry))) ⌝ }
 {

@@ -1,4 +1,4 @@
-// Sums over lent slices, one for each leaf, a scan and writes: what the benchmark calls, exported for Rust. They are proved safe and
+// Sums over lent slices, one for each leaf, calls of the scanner and writes: what the benchmark calls, exported for Rust. They are proved safe and
 // promise nothing more: what they call has its contract, and the benchmark compares the sums with the Rust's.
 use check_char::Checked;
 use check_char::check_basic_text_char;
@@ -11,8 +11,12 @@ use page::is_accepted;
 use replace::Replaced;
 use replace::replace;
 use text_input::Options;
+use text_input::Scanned;
 use text_input::State;
 use text_input::TextInput;
+use text_input_price::Price;
+use text_input_price::ask;
+use text_input_price::commit;
 use text_output::TextOutput;
 use text_output::Wrote;
 use text_utils::is_basic_text_end;
@@ -209,6 +213,26 @@ pub extern "C" fn bench_encode_utf16(big: bool, chars: &[u32], out: &mut [u8]) -
     }
 }
 
+// A record that stands in text.
+fn in_text() -> TextInput {
+    TextInput {
+        state: State::Ground(false),
+        expect_starter: false,
+        at_start: false,
+        last: 0x61,
+        count: 1,
+    }
+}
+
+// How many places a call filled; 0 where it was refused.
+fn places_filled(scanned: Scanned) -> usize {
+    let answer = scanned.answer;
+    match answer {
+        Answer::Written(n) => n,
+        Answer::Refused(_) => 0,
+    }
+}
+
 // How many places of queue a chunk is scanned into, from a record that stands in text; 0 where it is refused.
 #[no_mangle]
 pub extern "C" fn bench_scan(
@@ -218,22 +242,40 @@ pub extern "C" fn bench_scan(
     chunk: &[u32],
     queue: &mut [u32],
 ) -> usize {
-    let r = TextInput {
-        state: State::Ground(false),
-        expect_starter: false,
-        at_start: false,
-        last: 0x61,
-        count: 1,
-    };
     let options = Options {
         nel_compatibility: nel,
         lsps_compatibility: lsps,
     };
-    let scanned = r.scan(page, options, chunk, queue);
-    let answer = scanned.answer;
-    match answer {
-        Answer::Written(n) => n,
-        Answer::Refused(_) => 0,
+    places_filled(in_text().scan(page, options, chunk, queue))
+}
+
+// The same by a commit.
+#[no_mangle]
+pub extern "C" fn bench_commit(
+    page: &[u32],
+    nel: bool,
+    lsps: bool,
+    chunk: &[u32],
+    queue: &mut [u32],
+) -> usize {
+    let options = Options {
+        nel_compatibility: nel,
+        lsps_compatibility: lsps,
+    };
+    places_filled(commit(in_text(), page, options, chunk, queue))
+}
+
+// How many places a chunk fills, from the same record; 0 where asking is refused.
+#[no_mangle]
+pub extern "C" fn bench_ask(page: &[u32], nel: bool, lsps: bool, chunk: &[u32]) -> usize {
+    let options = Options {
+        nel_compatibility: nel,
+        lsps_compatibility: lsps,
+    };
+    let price = ask(in_text(), page, options, chunk);
+    match price {
+        Price::Places(n) => n,
+        Price::Refused(_) => 0,
     }
 }
 

@@ -2,13 +2,14 @@
 -- one reading (`whole`, `one-reading` of text_input), and that is what the writers let through and close on (proofs/Holds.antt;
 -- `passes-plain`, `passes-color`, `passes-crlf` of text_output).
 --     demand3          the theorem
+--     words            what its words come to
 --     passes-others    the queue passes the color and the CRLF writer too
 --     queue-chars, queue-starts, queue-ends, queue-writable    what the queue is
 use Prim.Native.Nat.{ℕ}
 use native.Mathlib.Nat.{zero-add}
 use mathlib.Core.Bool.{true}
 use mathlib.Core.List.{List, flatten}
-use mathlib.Core.Path.{_≡_, _∙_}
+use mathlib.Core.Path.{_≡_, refl, _∙_}
 use lib.ListN.{length}
 use Rattle.unicode.specs.Chars.{areChars}
 use Rattle.page.specs.Page.{accepted}
@@ -24,13 +25,13 @@ use Rattle.text_output.specs.Passing.{PassesIn}
 use Rattle.text_output.proofs.Writable.{writable, writable-of}
 use Rattle.text_output.proofs.Passing.{startsWell, endsWell, passes-plain}
 use Rattle.text_output.proofs.Modes.{passes-color, passes-crlf}
-use Rattle.one_reading.specs.Calls.{Call, Seen, queueOf, recordAfter, acceptedFrom, acceptedChunks, textOf, FinishedOnce}
-use Rattle.one_reading.specs.Demand.{NoneExcepted, Promise, Demand3, Others, PassesOthers}
+use Rattle.one_reading.specs.Calls.{Call, Seen, queueOf, recordAfter, acceptedCalls, acceptedChunks, textOf, FinishedOnce}
+use Rattle.one_reading.specs.Demand.{NoneExcepted, Promise, Demand3, Words, Others, PassesOthers}
 use Rattle.one_reading.proofs.Holds.{cleaned-starts, cleaned-ends, whole-clean, whole-chars}
-use Rattle.one_reading.proofs.Listed.{queue-listed, count-listed, chars-listed}
+use Rattle.one_reading.proofs.Listed.{queue-listed, count-listed, chars-listed, answered-listed}
 
 module _ (page : List ℕ) (good : accepted page ≡ true) (options : Options) (calls : List Call)
-    (once : FinishedOnce page options (acceptedFrom 0 calls)) (seen : List Outcome) (saw : Seen fresh calls seen) where
+    (once : FinishedOnce page options (acceptedCalls calls)) (seen : List Outcome) (saw : Seen fresh calls seen) where
   abbrev queue : List ℕ
   queue = queueOf seen
 
@@ -44,11 +45,11 @@ module _ (page : List ℕ) (good : accepted page ≡ true) (options : Options) (
 
   queue-clean : all clean queue ≡ true
   queue-clean =
-      rw (queue-listed page options calls seen fresh saw once) (whole-clean page options fresh _ (chars-listed calls 0))
+      rw (queue-listed page options calls seen fresh saw once) (whole-clean page options fresh _ (chars-listed calls 0 fresh))
 
   pub queue-chars : areChars queue ≡ true
   queue-chars =
-      rw (queue-listed page options calls seen fresh saw once) (whole-chars page options fresh _ (chars-listed calls 0))
+      rw (queue-listed page options calls seen fresh saw once) (whole-chars page options fresh _ (chars-listed calls 0 fresh))
 
   -- the reading of the text
   abbrev pieces : List Piece
@@ -84,6 +85,18 @@ module _ (page : List ℕ) (good : accepted page ≡ true) (options : Options) (
 -- THE THEOREM
 pub demand3 : Demand3
 demand3 page good options calls once seen saw = theorem page good options calls once seen saw
+
+-- ITS WORDS
+pub words : Words
+words =
+    record {
+      scanned = λ r page options chunk places. refl;
+      committed = λ r page options chunk places. refl;
+      finished = λ r eof places. refl;
+      accepted-are = λ calls seen saw. answered-listed calls fresh seen saw;
+      last = λ page options places. (refl, refl);
+      before = λ page options how chunk places calls once. (refl, refl, once);
+    }
 
 -- BEYOND IT
 pub passes-others : PassesOthers

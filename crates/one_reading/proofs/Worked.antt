@@ -20,11 +20,12 @@ use Rattle.text_input.specs.Scan.{fresh, scanOf, finishOf}
 use Rattle.text_input.specs.Pieces.{optionChar, lineChar, join, Reading, pieceImage, image, startMark, endMark, lastNewline, cleaned}
 use Rattle.text_input.proofs.Cut.{move, cut, cut-by}
 use Rattle.text_input.proofs.Unique.{class, kindC, tailOf, longest-of}
+use Rattle.text_input_price.specs.Price.{commitOf}
 use Rattle.text_output.specs.Step.{groundOf, writeStepOf, stepsOf}
 use Rattle.text_output.specs.Write.{runOf, parts, moreParts, writtenBy, writeRefusal, writeStrOf}
 use Rattle.text_output.specs.Close.{closeOf}
 use Rattle.text_output.specs.Passing.{Passes}
-use Rattle.one_reading.specs.Calls.{Seen, queueOf, recordAfter, acceptedFrom, acceptedChunks, textOf, FinishedOnce}
+use Rattle.one_reading.specs.Calls.{Seen, queueOf, recordAfter, acceptedFrom, acceptedCalls, acceptedChunks, textOf, FinishedOnce}
 use Rattle.one_reading.specs.Demand.{NoneExcepted}
 use Rattle.one_reading.specs.Cases.{page, options, lent}
 use Rattle.one_reading.specs.Worked.{calls, seen, text, pieces, queue, wrote, closed, Worked}
@@ -34,14 +35,14 @@ good-page : accepted page ≡ true
 unfolding accepted sized rising nonstarter assigned member rises
 good-page = refl
 
-once-finished : FinishedOnce page options (acceptedFrom 0 calls)
-unfolding calls acceptedFrom isChar accepted sized rising nonstarter assigned member rises
+once-finished : FinishedOnce page options (acceptedCalls calls)
+unfolding calls acceptedFrom scanStepOf leaveOf meetOf optionalLine replaceOf isChar accepted sized rising nonstarter assigned member rises
 once-finished = (refl, refl, (refl, refl, (refl, refl)))
 
 seen-is : Seen fresh calls seen
-unfolding calls seen scanOf chunkRefusal refusalOf finishOf scanStepOf leaveOf meetOf optionalLine replaceOf isChar
+unfolding calls seen scanOf commitOf chunkRefusal refusalOf finishOf scanStepOf leaveOf meetOf optionalLine replaceOf isChar
     basicTextStart basicTextEnd starter graphemeExtendNotCgj spacingMarkPlus accepted sized rising nonstarter assigned member rises
-seen-is = (refl, (refl, (refl, (refl, (refl, (refl, (refl, tt)))))))
+seen-is = (refl, (refl, (refl, (refl, (refl, (refl, (refl, (refl, tt))))))))
 
 queue-computed : queueOf seen ≡ queue
 unfolding seen queueOf
@@ -51,7 +52,7 @@ none-excepted : NoneExcepted (queueOf seen)
 none-excepted = rw queue-computed
 
 text-computed : textOf calls ≡ text
-unfolding calls textOf acceptedChunks acceptedFrom flatten isChar accepted sized rising nonstarter assigned member rises
+unfolding calls textOf acceptedChunks acceptedFrom flatten scanStepOf leaveOf meetOf optionalLine replaceOf isChar accepted sized rising nonstarter assigned member rises
 text-computed = refl
 
 reads : Reading options text pieces

@@ -17,7 +17,7 @@ use Rattle.text_input.specs.Scan.{Outcome, fresh, scanOf}
 use Rattle.text_input.specs.Pieces.{startMark, endMark}
 use Rattle.text_output.specs.declared.Mode.the-variants.{Plain}
 use Rattle.text_output.specs.Passing.{PassesIn}
-use Rattle.one_reading.specs.Calls.{Call, Seen, queueOf, acceptedFrom, FinishedOnce}
+use Rattle.one_reading.specs.Calls.{Call, Seen, queueOf, acceptedCalls, FinishedOnce}
 use Rattle.one_reading.specs.Demand.{NoneExcepted}
 
 -- for the pages, options and lists of calls of `Demand3`: "and every queue made as demand 3 says, without the characters it names, must get
@@ -25,7 +25,7 @@ use Rattle.one_reading.specs.Demand.{NoneExcepted}
 abbrev pub QueueGetsYes : Type 0
 QueueGetsYes =
     (page : List ℕ) → accepted page ≡ true → (options : Options) →
-    (calls : List Call) → FinishedOnce page options (acceptedFrom 0 calls) →
+    (calls : List Call) → FinishedOnce page options (acceptedCalls calls) →
     (seen : List Outcome) → Seen fresh calls seen →
     NoneExcepted (queueOf seen) → checkRunOf page (queueOf seen) ≡ yesNumbers
 

@@ -1,10 +1,12 @@
 -- DEMAND 3: what a list of calls that is finished once, as end of file, comes to. Document 01, "Agreed between us", with "Pieces of a
--- text". Last, beyond it, that its queue passes the writers of the other modes too.
+-- text". Then what the words of the statement come to; last, beyond it, that its queue passes the writers of the other modes too.
 use Prim.Native.Nat.{ℕ}
-use mathlib.Core.Bool.{true, not}
-use mathlib.Core.List.{List, flatten}
+use mathlib.Core.Bool.{Bool, true, cond, not}
+use mathlib.Core.List.{List, [], _∷_, flatten}
 use mathlib.Core.Path.{_≡_}
+use lib.Dec.{eqb}
 use lib.ListN.{length}
+use Rattle.common.specs.Answers.{refusalIn}
 use Rattle.common.specs.Only.{ExactlyOne}
 use Rattle.page.specs.Page.{accepted}
 use Rattle.replace.specs.Table.{inSpans}
@@ -12,11 +14,12 @@ use Rattle.check_char.specs.Check.{excepted, clean, all}
 use Rattle.isolate_unassigned.specs.Meaning.{isolated}
 use Rattle.text_input.specs.declared.Options.{Options}
 use Rattle.text_input.specs.declared.TextInput.{TextInput}
-use Rattle.text_input.specs.Scan.{Outcome, fresh}
+use Rattle.text_input.specs.Scan.{Outcome, fresh, scanOf, finishOf}
 use Rattle.text_input.specs.Pieces.{Piece, Reading, cleaned}
+use Rattle.text_input_price.specs.Price.{commitOf}
 use Rattle.text_output.specs.declared.Mode.the-variants.{Plain, Crlf, Color}
 use Rattle.text_output.specs.Passing.{PassesIn, crlfOf}
-use Rattle.one_reading.specs.Calls.{Call, Seen, queueOf, recordAfter, acceptedFrom, acceptedChunks, textOf, FinishedOnce}
+use Rattle.one_reading.specs.Calls.{Taking, scan, commit, Call, chunkBy, finish, callOf, Seen, queueOf, recordAfter, acceptedCalls, acceptedChunks, textOf, FinishedOnce}
 
 -- a queue holds none of 2126, 212A, 212B and the ideographs: "The ideographs excepted are those that `check_basic_text_char` lists."
 abbrev pub NoneExcepted : List ℕ → Type 0
@@ -45,9 +48,31 @@ pub record Promise (page : List ℕ) (options : Options) (calls : List Call) (qu
 abbrev pub Demand3 : Type 0
 Demand3 =
     (page : List ℕ) → accepted page ≡ true → (options : Options) →
-    (calls : List Call) → FinishedOnce page options (acceptedFrom 0 calls) →
+    (calls : List Call) → FinishedOnce page options (acceptedCalls calls) →
     (seen : List Outcome) → Seen fresh calls seen →
     Promise page options calls (queueOf seen) (recordAfter fresh seen)
+
+-- ---- what the statement's words come to, on every list of calls
+-- the calls that answered 0
+unfoldable pub answered : List Call → List Outcome → List Call
+answered [] seen = []
+answered (c ∷ calls) [] = []
+answered (c ∷ calls) (s ∷ seen) = cond (eqb (refusalIn (s .numbers)) 0) (c ∷ answered calls seen) (answered calls seen)
+
+pub record Words : Type 0 where
+  -- "in demand 3 a commit stands as a scan": a call is what the contract of its entry says
+  pub scanned : (r : TextInput) (page : List ℕ) (options : Options) (chunk places : List ℕ) →
+      callOf r (chunkBy scan page options chunk places) ≡ scanOf r page options chunk places
+  pub committed : (r : TextInput) (page : List ℕ) (options : Options) (chunk places : List ℕ) →
+      callOf r (chunkBy commit page options chunk places) ≡ commitOf r page options chunk places
+  pub finished : (r : TextInput) (eof : Bool) (places : List ℕ) → callOf r (finish eof places) ≡ finishOf r eof places
+  -- "The refusal conditions alone decide which calls are accepted": these are the ones that answer so, and a refused one is left out,
+  -- whatever it brings
+  pub accepted-are : (calls : List Call) (seen : List Outcome) → Seen fresh calls seen → acceptedCalls calls ≡ answered calls seen
+  -- the streams of demand 3 end with a finish as end of file, and begin with any number of scans and commits, in any order
+  pub last : (page : List ℕ) (options : Options) (places : List ℕ) → FinishedOnce page options (finish true places ∷ [])
+  pub before : (page : List ℕ) (options : Options) (how : Taking) (chunk places : List ℕ) (calls : List Call) →
+      FinishedOnce page options calls → FinishedOnce page options (chunkBy how page options chunk places ∷ calls)
 
 -- ---- beyond demand 3: the writers of the other modes
 -- a queue passes them too
@@ -61,6 +86,6 @@ pub record Others (page queue : List ℕ) : Type 0 where
 abbrev pub PassesOthers : Type 0
 PassesOthers =
     (page : List ℕ) → accepted page ≡ true → (options : Options) →
-    (calls : List Call) → FinishedOnce page options (acceptedFrom 0 calls) →
+    (calls : List Call) → FinishedOnce page options (acceptedCalls calls) →
     (seen : List Outcome) → Seen fresh calls seen →
     NoneExcepted (queueOf seen) → Others page (queueOf seen)

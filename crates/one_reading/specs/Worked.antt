@@ -1,6 +1,6 @@
 -- A list of calls for which demand 3 holds, worked out: calls that are refused by 8, 2 and 1 among those that are accepted, what a
 -- caller sees of each, the text and its reading, the queue, and the write and the close of it. It shows that the hypotheses of
--- `Demand3` can be met. The answers are those of the comparison's oracle, which is the original Rust with what document 01 adds.
+-- `Demand3` can be met. The answers are those of the comparison's oracle, which is the original Rust with what the documents add.
 -- Characters are hexadecimal.
 use Prim.Native.Nat.{ℕ}
 use mathlib.Core.Bool.{true, false}
@@ -17,7 +17,7 @@ use Rattle.text_output.specs.Writer.{Outcome as Wrote, Given, fresh as freshWri
 use Rattle.text_output.specs.Write.{writeStrOf}
 use Rattle.text_output.specs.Close.{closeOf}
 use Rattle.text_output.specs.Passing.{Passes}
-use Rattle.one_reading.specs.Calls.{Call, scan, finish, Seen, queueOf, recordAfter, acceptedFrom, textOf, FinishedOnce}
+use Rattle.one_reading.specs.Calls.{scan, commit, Call, chunkBy, finish, Seen, queueOf, recordAfter, acceptedCalls, textOf, FinishedOnce}
 use Rattle.one_reading.specs.Demand.{NoneExcepted, Promise}
 use Rattle.one_reading.specs.Cases.{page, options, lent}
 
@@ -26,17 +26,19 @@ use Rattle.one_reading.specs.Cases.{page, options, lent}
 unfoldable pub calls : List Call
 calls =
     -- two characters need seven places: refused by 8
-    scan page options (0xFEFF ∷ 0x0D ∷ []) (lent 1)
+    chunkBy scan page options (0xFEFF ∷ 0x0D ∷ []) (lent 1)
     -- a page that is a number short, and other options: refused by 2
-    ∷ scan (0 ∷ 1 ∷ 0 ∷ []) (record { «nel_compatibility» = true; «lsps_compatibility» = true }) (0xFEFF ∷ 0x0D ∷ []) (lent 7)
+    ∷ chunkBy scan (0 ∷ 1 ∷ 0 ∷ []) (record { «nel_compatibility» = true; «lsps_compatibility» = true }) (0xFEFF ∷ 0x0D ∷ []) (lent 7)
     -- the first accepted call: FEFF is dropped, and 0D waits
-    ∷ scan page options (0xFEFF ∷ 0x0D ∷ []) (lent 7)
+    ∷ chunkBy scan page options (0xFEFF ∷ 0x0D ∷ []) (lent 7)
     -- D800 is no character: refused by 1
-    ∷ scan page options (0xD800 ∷ []) (lent 4)
+    ∷ chunkBy scan page options (0xD800 ∷ []) (lent 4)
     -- a finish needs two places: refused by 8
     ∷ finish true (lent 1)
-    -- 0D 0A is one line end
-    ∷ scan page options (0x0A ∷ 0x61 ∷ []) (lent 7)
+    -- after 0D the chunk 0A 61 fills two places: a commit into one is refused by 8
+    ∷ chunkBy commit page options (0x0A ∷ 0x61 ∷ []) (lent 1)
+    -- .. and into two it is taken: 0D 0A is one line end
+    ∷ chunkBy commit page options (0x0A ∷ 0x61 ∷ []) (lent 2)
     ∷ finish true (lent 2)
     ∷ []
 
@@ -53,10 +55,11 @@ seen =
     ∷ record { numbers = 0 ∷ 0 ∷ []; next = after Cr 0x0A 2; places = lent 7 }
     ∷ record { numbers = 1 ∷ []; next = after Cr 0x0A 2; places = lent 4 }
     ∷ record { numbers = 8 ∷ []; next = after Cr 0x0A 2; places = lent 1 }
+    ∷ record { numbers = 8 ∷ []; next = after Cr 0x0A 2; places = lent 1 }
     ∷ record {
       numbers = 0 ∷ 2 ∷ [];
       next = record { state = Ground false; «expect_starter» = false; «at_start» = false; last = 0x61; count = 4 };
-      places = 0x0A ∷ 0x61 ∷ lent 5;
+      places = 0x0A ∷ 0x61 ∷ [];
     }
     ∷ record { numbers = 0 ∷ 1 ∷ []; next = after (Ground true) 0x0A 4; places = 0x0A ∷ lent 1 }
     ∷ []
@@ -82,7 +85,7 @@ closed = closeOf (wrote .given .next)
 pub record Worked : Type 0 where
   -- the hypotheses of demand 3
   pub good : accepted page ≡ true
-  pub once : FinishedOnce page options (acceptedFrom 0 calls)
+  pub once : FinishedOnce page options (acceptedCalls calls)
   pub saw : Seen fresh calls seen
   pub none : NoneExcepted (queueOf seen)
   -- what it then says

@@ -12,6 +12,9 @@ use replay_words::words::Stored;
 use text_input::Options;
 use text_input::Scanned;
 use text_input::TextInput;
+use text_input_price::Price;
+use text_input_price::ask;
+use text_input_price::commit;
 
 // The current scanner after a line, and how many bytes of answers wait then.
 pub struct Answered {
@@ -64,8 +67,17 @@ fn count(given: Single, scanner: TextInput, out: &mut [u8], at: usize) -> Answer
     }
 }
 
-// A chunk scanned into blank places.
-fn scan_into(
+// The options by their number.
+fn options_of(number: u32) -> Options {
+    Options {
+        nel_compatibility: (number == 1) | (number == 3),
+        lsps_compatibility: 2 <= number,
+    }
+}
+
+// A chunk scanned, or committed, into blank places.
+fn take_into(
+    is_commit: bool,
     options: u32,
     chunk: &[u32],
     page: &[u32],
@@ -75,16 +87,19 @@ fn scan_into(
     at: usize,
 ) -> Answered {
     blank::make_blank(places);
-    let on = Options {
-        nel_compatibility: (options == 1) | (options == 3),
-        lsps_compatibility: 2 <= options,
-    };
-    let scanned = scanner.scan(page, on, chunk, places);
-    came(scanned, places, out, at)
+    let on = options_of(options);
+    if is_commit {
+        let committed = commit(scanner, page, on, chunk, places);
+        came(committed, places, out, at)
+    } else {
+        let scanned = scanner.scan(page, on, chunk, places);
+        came(scanned, places, out, at)
+    }
 }
 
 // The options, the room and the chunk given, with so many places lent.
-fn scan_given(
+fn take_given(
+    is_commit: bool,
     given: &[u32],
     page: &[u32],
     scanner: TextInput,
@@ -103,7 +118,8 @@ fn scan_given(
         return refuse(scanner, out, at, Why::Room);
     }
     let mut places = [0u32; PLACES];
-    scan_into(
+    take_into(
+        is_commit,
         options,
         &given[2..],
         page,
@@ -114,8 +130,43 @@ fn scan_given(
     )
 }
 
-// `S scan OPT ROOM c c ..`
-fn scan(
+// What asking answered, and the record as it was.
+fn asked(price: Price, scanner: TextInput, out: &mut [u8], at: usize) -> Answered {
+    match price {
+        Price::Places(n) => {
+            let end = answer::told(out, at, b"ok n=#", &[n as u64]);
+            told(scanner, out, end)
+        }
+        Price::Refused(number) => {
+            let end = answer::refusal(out, at, number);
+            told(scanner, out, end)
+        }
+    }
+}
+
+// The options and the chunk given.
+fn ask_given(
+    given: &[u32],
+    page: &[u32],
+    scanner: TextInput,
+    out: &mut [u8],
+    at: usize,
+) -> Answered {
+    if given.len() == 0 {
+        return refuse(scanner, out, at, Why::Number);
+    }
+    let options = given[0];
+    if options > 3 {
+        return refuse(scanner, out, at, Why::Options);
+    }
+    let price = ask(scanner, page, options_of(options), &given[1..]);
+    asked(price, scanner, out, at)
+}
+
+// `S scan OPT ROOM c c ..`, `S commit OPT ROOM c c ..` or `S ask OPT c c ..`
+fn chunk(
+    is_ask: bool,
+    is_commit: bool,
     line: &[u8],
     place: usize,
     page: &[u32],
@@ -126,7 +177,14 @@ fn scan(
     let mut numbers = [0u32; NUMBERS];
     match words::numbers(line, place, &mut numbers) {
         Stored::Bad(why) => refuse(scanner, out, at, why),
-        Stored::All(n) => scan_given(front::numbers(&numbers, n), page, scanner, out, at),
+        Stored::All(n) => {
+            let given = front::numbers(&numbers, n);
+            if is_ask {
+                ask_given(given, page, scanner, out, at)
+            } else {
+                take_given(is_commit, given, page, scanner, out, at)
+            }
+        }
     }
 }
 
@@ -175,20 +233,32 @@ pub fn operate(
     at: usize,
     scanner: TextInput,
 ) -> Answered {
-    let found = words::which(line, b"S scan\nS fin p\nS fin e\nS count\nS new\n");
+    let found = words::which(
+        line,
+        b"S scan\nS commit\nS ask\nS fin p\nS fin e\nS count\nS new\n",
+    );
     let number = found.number;
     let place = found.place;
     match number {
-        0 => scan(line, place, page, scanner, out, at),
-        1 | 2 => finish(
+        0 | 1 | 2 => chunk(
             number == 2,
+            number == 1,
+            line,
+            place,
+            page,
+            scanner,
+            out,
+            at,
+        ),
+        3 | 4 => finish(
+            number == 4,
             words::one_number(line, place),
             scanner,
             out,
             at,
         ),
-        3 => count(words::one_number(line, place), scanner, out, at),
-        4 => new(place == line.len(), scanner, out, at),
+        5 => count(words::one_number(line, place), scanner, out, at),
+        6 => new(place == line.len(), scanner, out, at),
         _ => refuse(scanner, out, at, Why::Word),
     }
 }

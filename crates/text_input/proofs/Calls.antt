@@ -1,4 +1,5 @@
 -- What an accepted call may rely on, and that answer, record and places are then the definition's.
+--     skip-le                     a chunk has what is skipped of it
 --     Asked                       a scan that is asked for, and the number of its refusal
 --     refused-is                  its outcome where it is refused
 --     right-page, counts, from-le, enough, accepted-is
@@ -44,7 +45,7 @@ bom-le (c ∷ cs) = one (eqb c 0xFEFF)
     one true = omega arith
     one false = omega arith
 
-skip-le : (r : TextInput) (chunk : List ℕ) → skipped r chunk ≤ length chunk
+pub skip-le : (r : TextInput) (chunk : List ℕ) → skipped r chunk ≤ length chunk
 skip-le r chunk = split (λ n. n ≤ length chunk) (r .«at_start») (λ h. bom-le chunk) (λ h. omega arith)
 
 -- a scan that is asked for, and the number of its refusal

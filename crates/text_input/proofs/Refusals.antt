@@ -3,8 +3,9 @@
 -- what it appends, which fits.
 --     scan-order, finish-order      the order of refusals
 --     scan-leaves, finish-leaves    what a scan, a finish leaves
+--     taken-leaves                  what a call leaves that takes a chunk as a scan does, whatever it is refused by
 use Prim.Native.Nat.{ℕ, _+_, _*_, _≤_}
-use mathlib.Core.Bool.{Bool, true, not, _&&_}
+use mathlib.Core.Bool.{Bool, cond, not, _&&_}
 use mathlib.Core.List.{List, [], _∷_}
 use mathlib.Core.Path.{_≡_, refl, sym, _∙_}
 use native.Mathlib.Omega.{arith}
@@ -22,7 +23,7 @@ use Rattle.text_input_parts.proofs.Passed.{passed}
 use Rattle.text_input_parts.proofs.Order.{refusal-order}
 use Rattle.text_input.specs.declared.Options.{Options}
 use Rattle.text_input.specs.declared.TextInput.{TextInput}
-use Rattle.text_input.specs.Scan.{Outcome, skipped, opened, scanRefusal, scanChars, scanOf, finishChars, finishOf}
+use Rattle.text_input.specs.Scan.{Outcome, refused, written, skipped, opened, scanRefusal, scanChars, scanNext, scanOf, finishChars, finishOf}
 use Rattle.text_input.specs.Refusals.{ScanLeaves, FinishLeaves}
 use Rattle.text_input.proofs.Meaning.{ends-start, ends-count}
 use Rattle.text_input.proofs.Room.{scan-room, finish-room}
@@ -44,21 +45,22 @@ module _ (r : TextInput) (p : List ℕ) (o : Options) (chunk queue : List ℕ) w
   scan-order = answered ∙ refusal-order (r .count) (accepted p) (areChars chunk) (length chunk) (length queue)
 
   -- what an accepted scan appends has room
-  chars-fit : eqb no 0 ≡ true → length (scanChars p o r chunk) ≤ length queue
+  chars-fit : no ≡ 0 → length (scanChars p o r chunk) ≤ length queue
   chars-fit e =
-      let h = passed (r .count) (accepted p) (areChars chunk) (length chunk) (placesForChunk (length chunk)) (length queue) (eqb-true no 0 e) in
+      let h = passed (r .count) (accepted p) (areChars chunk) (length chunk) (placesForChunk (length chunk)) (length queue) e in
       omega (arith, scan-room p o r chunk, h .1)
 
-  pub scan-leaves : ScanLeaves r chunk queue (scanOf r p o chunk queue)
-  unfolding scanOf
-  scan-leaves =
-      split (ScanLeaves r chunk queue) (eqb no 0)
+  -- a call that is refused by n and then gives record and places back, or stores what a scan appends, where it fits
+  pub taken-leaves : (n : ℕ) → (n ≡ 0 → length (scanChars p o r chunk) ≤ length queue) →
+      ScanLeaves r chunk queue (cond (eqb n 0) (written (scanNext p o r chunk) (scanChars p o r chunk) queue) (refused r n queue))
+  taken-leaves n f =
+      split (ScanLeaves r chunk queue) (eqb n 0)
       (λ e.
       record {
         nothing = λ h. never h;
         spends = λ h. ends-start p o (opened r (length chunk)) (drop (skipped r chunk) chunk);
         counts = λ h. ends-count p o (opened r (length chunk)) (drop (skipped r chunk) chunk);
-        fits = chars-fit e;
+        fits = f (eqb-true n 0 e);
         past = drop-sets (length (scanChars p o r chunk)) queue 0 (scanChars p o r chunk) (omega arith);
       })
       (λ e.
@@ -69,6 +71,10 @@ module _ (r : TextInput) (p : List ℕ) (o : Options) (chunk queue : List ℕ) w
         fits = omega arith;
         past = refl;
       })
+
+  pub scan-leaves : ScanLeaves r chunk queue (scanOf r p o chunk queue)
+  unfolding scanOf
+  scan-leaves = taken-leaves no chars-fit
 
 module _ (r : TextInput) (eof : Bool) (queue : List ℕ) where
   -- "Free places needed: 2."

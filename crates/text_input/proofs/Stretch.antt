@@ -13,7 +13,7 @@ use mathlib.Core.Path.{_≡_, refl, sym, ap, _∙_}
 use native.Mathlib.Omega.{arith}
 use lib.Dec.{eqb}
 use lib.ListN.{length, drop, getD, length-append}
-use lib.Seq.{sets, drop-cons}
+use lib.Seq.{drop-cons}
 use borrow.Author.Tests.{eqb-true, ne-eqb, not-true}
 use Rattle.replace.specs.declared.Replaced.the-variants.{One}
 use Rattle.replace.specs.Table.{inSpans}
@@ -33,7 +33,7 @@ use Rattle.text_input.specs.declared.step.Left.the-variants.{Goes}
 use Rattle.text_input.specs.declared.step.Met.the-variants.{Line, Other}
 use Rattle.text_input.specs.Sets.{optionalLine}
 use Rattle.text_input.specs.declared.step.Step.{Step}
-use Rattle.text_input_parts.specs.Appended.{lastOf}
+use Rattle.text_input_parts.specs.Appended.{lastOf, storedIf, limitOf}
 use Rattle.text_input.specs.Step.{scanStepOf, outChars, leaveOf, meetOf}
 use Rattle.text_input.specs.declared.Ran.{Ran}
 use Rattle.text_input.specs.Scan.{Effect, stepEffect, runOf}
@@ -154,12 +154,12 @@ pub ran-is : {m n : ℕ} {x y : TextInput} → m ≡ n → x ≡ y → _≡_ {A 
 ran-is h g = λ i. record { written = h i; next = g i }
 
 -- ---- one turn of `advance`: a stretch that is kept, or one character
-module _ (p : List ℕ) (o : Options) (r : TextInput) (chunk : List ℕ) (i : ℕ) (queue : List ℕ) (k : ℕ) where
+module _ (p : List ℕ) (o : Options) (r : TextInput) (chunk : List ℕ) (i : ℕ) (stores : Bool) (queue : List ℕ) (k : ℕ) where
   abbrev Room : Type 0
-  Room = k + length (outs p o r (drop i chunk)) ≤ length queue
+  Room = k + length (outs p o r (drop i chunk)) ≤ limitOf stores queue
 
   module _ (j : ℕ) (v : Keeps r chunk i j) where
-    pub kept-room : Room → k + length (part i j chunk) ≤ length queue
+    pub kept-room : Room → k + length (part i j chunk) ≤ limitOf stores queue
     kept-room room =
         let e = ap (outs p o r) (cut chunk i j (omega (arith, v .more))) ∙ outs-append p o r (part i j chunk) (drop j chunk) in
         let n = ap length e ∙ length-append (outs p o r (part i j chunk)) (outs p o (ends p o r (part i j chunk)) (drop j chunk)) in
@@ -167,8 +167,8 @@ module _ (p : List ℕ) (o : Options) (r : TextInput) (chunk : List ℕ) (i : �
         omega (arith, n, m)
 
     pub kept-moves : (gap : Range) → Gap gap → (next : TextInput) → next ≡ passedBy r (getD chunk (j - 1) 0) →
-        (after : List ℕ) → after ≡ sets queue k (part i j chunk) →
-        Moves p o r chunk i queue k (record { at = j; written = k + (j - i); next = next; gap = gap }) after
+        (after : List ℕ) → after ≡ storedIf stores queue k (part i j chunk) →
+        Moves p o r chunk i stores queue k (record { at = j; written = k + (j - i); next = next; gap = gap }) after
     kept-moves gap ps next e after a =
         let q = kept-outs p o r chunk i j v in
         let n = part-length chunk i j (omega (arith, v .more)) (v .low) in
@@ -187,19 +187,19 @@ module _ (p : List ℕ) (o : Options) (r : TextInput) (chunk : List ℕ) (i : �
     one-run : runOf p o r (part i (i + 1) chunk) ≡ stepEffect step
     one-run = rw (part-one chunk i here, append-nil)
 
-    pub turn-room : Room → k + length (outChars step) ≤ length queue
+    pub turn-room : Room → k + length (outChars step) ≤ limitOf stores queue
     turn-room room =
         let e = ap (outs p o r) (drop-cons chunk i 0 here) in
         let n = ap length e ∙ length-append (outChars step) (outs p o (step .next) (drop (suc i) chunk)) in
         omega (arith, n)
 
-    pub turn-moves : (gap : Range) → Gap gap → (t : Ran) → t ≡ ranBy k (stepEffect step) → (after : List ℕ) → after ≡ sets queue k (outChars step) →
-        Moves p o r chunk i queue k (record { at = i + 1; written = t .written; next = t .next; gap = gap }) after
+    pub turn-moves : (gap : Range) → Gap gap → (t : Ran) → t ≡ ranBy k (stepEffect step) → (after : List ℕ) → after ≡ storedIf stores queue k (outChars step) →
+        Moves p o r chunk i stores queue k (record { at = i + 1; written = t .written; next = t .next; gap = gap }) after
     turn-moves gap ps t e after a =
         record {
           on = omega arith;
           low = omega arith;
           ran = e ∙ ap (ranBy k) (sym one-run);
-          places = a ∙ ap (λ (x : Effect). sets queue k (x .out)) (sym one-run);
+          places = a ∙ ap (λ (x : Effect). storedIf stores queue k (x .out)) (sym one-run);
           gap = ps;
         }

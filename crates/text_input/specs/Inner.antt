@@ -5,10 +5,9 @@ use mathlib.Core.List.{List, _++_}
 use mathlib.Core.Path.{_≡_}
 use lib.Dec.{eqb}
 use lib.ListN.{length}
-use lib.Seq.{sets}
 use Rattle.stretch.specs.Stretch.{part}
 use Rattle.stretch.specs.Plain.{Gap}
-use Rattle.text_input_parts.specs.Appended.{leadChars}
+use Rattle.text_input_parts.specs.Appended.{leadChars, storedIf}
 use Rattle.text_input.specs.declared.State.{State}
 use Rattle.text_input.specs.declared.State.the-variants.{Ground, Cr, Ff, Esc, CsiStart, Csi, Osc, Linux}
 use Rattle.text_input.specs.declared.Options.{Options}
@@ -56,10 +55,10 @@ ranIn m = record { written = m .written; next = m .next }
 abbrev pub endingChars : Ending → List ℕ
 endingChars e = leadChars (e .lead) ++ (leadChars (e .mark) ++ leadChars (e .newline))
 
--- the chunk is taken from place i up to a later one, and what its characters come to is stored from place k on
-pub record Moves (p : List ℕ) (o : Options) (r : TextInput) (chunk : List ℕ) (i : ℕ) (queue : List ℕ) (k : ℕ) (m : Moved) (after : List ℕ) : Type 0 where
+-- the chunk is taken from place i up to a later one, and what its characters come to stands from place k on, stored or not
+pub record Moves (p : List ℕ) (o : Options) (r : TextInput) (chunk : List ℕ) (i : ℕ) (stores : Bool) (queue : List ℕ) (k : ℕ) (m : Moved) (after : List ℕ) : Type 0 where
   pub on : i < m .at
   pub low : m .at ≤ length chunk
   pub ran : ranIn m ≡ ranBy k (runOf p o r (part i (m .at) chunk))
-  pub places : after ≡ sets queue k (outs p o r (part i (m .at) chunk))
+  pub places : after ≡ storedIf stores queue k (outs p o r (part i (m .at) chunk))
   pub gap : Gap (m .gap)

@@ -1,7 +1,8 @@
 // The scanner: ports text_input.rs. A chunk of characters comes in and its cleaned characters go to the queue (`scan`), and a stream
 // ends or is pushed (`finish`). The queue is a lent slice: each call writes from its first place on. The record is a value: each call
 // takes one and answers the one after it. A chunk goes by stretches that are copied (crate `stretch`), and by a step for any other
-// character. Filling bytes from the queue is the crate `text_input_fill`.
+// character. Filling bytes from the queue is the crate `text_input_fill`; asking how many places a chunk fills, and committing it into them,
+// is the crate `text_input_price`.
 // What needs no record, sets of characters, what is appended and its stores, and refusals, is the crate `text_input_parts`.
 //     step.rt    one character in one state: `process_raw_string` without its loop
 pub mod step;
@@ -20,7 +21,7 @@ use text_input_parts::queue::Lead;
 use text_input_parts::queue::end_mark;
 use text_input_parts::queue::last_lead;
 use text_input_parts::queue::owed_newline;
-use text_input_parts::queue::put;
+use text_input_parts::queue::put_if;
 use text_input_parts::queue::put_three;
 use text_input_parts::refusals;
 use text_input_parts::refusals::refusal;
@@ -33,6 +34,7 @@ ghost use lib.ListN.{length, drop};
 ghost use lib.Seq.{sets};
 ghost use Rattle.page.specs.Page.{accepted};
 ghost use Rattle.stretch.specs.Plain.{Gap};
+ghost use Rattle.text_input_parts.specs.Appended.{storedIf, limitOf};
 ghost use Rattle.text_input_parts.specs.Refusals.{maxCount};
 ghost use Rattle.text_input.specs.Step.{scanStepOf, outChars};
 ghost use Rattle.text_input.specs.Scan.{fresh, stepEffect, runOf, skipped, opened, outcome, scanOf, pendingOf, afterLine, finishChars, finishNext, finishOf};
@@ -68,7 +70,7 @@ pub struct TextInput {
     pub state: State,
     // A start is expected: in a fresh record, and after a finish.
     pub expect_starter: bool,
-    // No scan has been accepted, so that a leading FEFF is dropped.
+    // No chunk has been accepted, so that a leading FEFF is dropped.
     pub at_start: bool,
     // The last character ever appended. Before the first it is 0A, which is an end.
     pub last: u32,
@@ -124,17 +126,25 @@ impl TextInput {
         }
     }
 
-    // One character, and its output stored from a place on. Inner: asks for an accepted page and for room.
-    fn turn(self, page: &[u32], options: Options, c: u32, queue: &mut [u32], at: usize) -> Ran
+    // One character, and its output from a place on. Inner: asks for an accepted page and for room.
+    fn turn(
+        self,
+        page: &[u32],
+        options: Options,
+        c: u32,
+        stores: bool,
+        queue: &mut [u32],
+        at: usize,
+    ) -> Ran
         requires { ⌜ accepted (now page) ≡ true ⌝ }
-        requires { ⌜ at + length (outChars (scanStepOf (now page) options self c)) ≤ length (now queue) ⌝ }
+        requires { ⌜ at + length (outChars (scanStepOf (now page) options self c)) ≤ limitOf stores (now queue) ⌝ }
         ensures ran { λ r. ⌜ r ≡ ranBy at (stepEffect (scanStepOf (now (page .entry)) options self c)) ⌝ }
-        ensures places { λ r. ⌜ now (queue .exit) ≡ sets (now (queue .entry)) at (outChars (scanStepOf (now (page .entry)) options self c)) ⌝ }
+        ensures places { λ r. ⌜ now (queue .exit) ≡ storedIf stores (now (queue .entry)) at (outChars (scanStepOf (now (page .entry)) options self c)) ⌝ }
     {
         let step = self.step(page, options, c);
         let lead = step.lead;
         let image = step.image;
-        let written = put(queue, at, lead, image);
+        let written = put_if(stores, queue, at, lead, image);
         let next = step.next;
         Ran { written, next }
     }
@@ -160,8 +170,8 @@ impl TextInput {
         }
     }
 
-    // One character or more of the chunk from place i on, and their output stored from place k on: a stretch that is copied, or one
-    // step. Inner: asks for an accepted page, for a character at i, for a gap, and for room for all that is left.
+    // One character or more of the chunk from place i on, and their output from place k on: a stretch that is copied, or one step. Inner:
+    // asks for an accepted page, for a character at i, for a gap, and for room for all that is left.
     fn advance(
         self,
         page: &[u32],
@@ -169,19 +179,20 @@ impl TextInput {
         chunk: &[u32],
         i: usize,
         gap: Range,
+        stores: bool,
         queue: &mut [u32],
         k: usize,
     ) -> Moved
         requires page { ⌜ accepted (now page) ≡ true ⌝ }
         requires more { ⌜ i < length (now chunk) ⌝ }
         requires gap { ⌜ Gap gap ⌝ }
-        requires room { ⌜ k + length (outs (now page) options self (drop i (now chunk))) ≤ length (now queue) ⌝ }
-        ensures { λ r. ⌜ Moves (now (page .entry)) options self (now (chunk .entry)) i (now (queue .entry)) k r (now (queue .exit)) ⌝ }
+        requires room { ⌜ k + length (outs (now page) options self (drop i (now chunk))) ≤ limitOf stores (now queue) ⌝ }
+        ensures { λ r. ⌜ Moves (now (page .entry)) options self (now (chunk .entry)) i stores (now (queue .entry)) k r (now (queue .exit)) ⌝ }
     {
         let c = chunk[i];
         if self.is_steady() & is_sought(ascii_or(gap), c) {
             let end = plain_end(chunk, i + 1, gap);
-            put_run(&chunk[i..end], queue, k);
+            put_run_if(stores, &chunk[i..end], queue, k);
             let next = self.passed(chunk[end - 1]);
             Moved {
                 at: end,
@@ -190,9 +201,9 @@ impl TextInput {
                 gap,
             }
         } else {
-            let turned = self.turn(page, options, c, queue, k);
+            let turned = self.turn(page, options, c, stores, queue, k);
             let next = turned.next;
-            let near = next_gap(gap, c);
+            let near = gap_after(gap, c);
             Moved {
                 at: i + 1,
                 written: turned.written,
@@ -202,20 +213,28 @@ impl TextInput {
         }
     }
 
-    // A run of characters, stored from the first place on. Inner: asks for an accepted page and for room. What is left of the run,
-    // from the record r on, goes to the places from k on.
-    pub fn run(self, page: &[u32], options: Options, chunk: &[u32], queue: &mut [u32]) -> Ran
+    // A run of characters, stored from the first place on, or its places counted and nothing stored: one loop for both, so that a step
+    // is called from one place and can be part of it. Inner: asks for an accepted page and for room. What is left of the run, from the
+    // record r on, goes to the places from k on.
+    fn go(
+        self,
+        page: &[u32],
+        options: Options,
+        chunk: &[u32],
+        stores: bool,
+        queue: &mut [u32],
+    ) -> Ran
         requires { ⌜ accepted (now page) ≡ true ⌝ }
-        requires { ⌜ length (outs (now page) options self (now chunk)) ≤ length (now queue) ⌝ }
+        requires { ⌜ length (outs (now page) options self (now chunk)) ≤ limitOf stores (now queue) ⌝ }
         ensures ran { λ r. ⌜ r ≡ ranBy 0 (runOf (now (page .entry)) options self (now (chunk .entry))) ⌝ }
-        ensures places { λ r. ⌜ now (queue .exit) ≡ sets (now (queue .entry)) 0 (outs (now (page .entry)) options self (now (chunk .entry))) ⌝ }
+        ensures places { λ r. ⌜ now (queue .exit) ≡ storedIf stores (now (queue .entry)) 0 (outs (now (page .entry)) options self (now (chunk .entry))) ⌝ }
     {
         let mut r = self;
         let mut gap = first_gap();
         let mut k = 0;
         let mut i = 0;
         while i < chunk.len() {
-            let moved = r.advance(page, options, chunk, i, gap, queue, k);
+            let moved = r.advance(page, options, chunk, i, gap, stores, queue, k);
             i = moved.at;
             k = moved.written;
             r = moved.next;
@@ -227,8 +246,30 @@ impl TextInput {
         }
     }
 
-    // How many characters of the chunk are dropped: a leading FEFF, where no scan was accepted before.
-    fn skips(self, chunk: &[u32]) -> usize
+    // A run of characters, stored from the first place on. Inner: asks for an accepted page and for room.
+    pub fn run(self, page: &[u32], options: Options, chunk: &[u32], queue: &mut [u32]) -> Ran
+        requires { ⌜ accepted (now page) ≡ true ⌝ }
+        requires { ⌜ length (outs (now page) options self (now chunk)) ≤ length (now queue) ⌝ }
+        ensures ran { λ r. ⌜ r ≡ ranBy 0 (runOf (now (page .entry)) options self (now (chunk .entry))) ⌝ }
+        ensures places { λ r. ⌜ now (queue .exit) ≡ sets (now (queue .entry)) 0 (outs (now (page .entry)) options self (now (chunk .entry))) ⌝ }
+    {
+        self.go(page, options, chunk, true, queue)
+    }
+
+    // How many places a run of characters fills; nothing is stored. Inner: asks for an accepted page, and for no more characters than the
+    // count can hold, so that the sum cannot wrap.
+    pub fn run_places(self, page: &[u32], options: Options, chunk: &[u32]) -> usize
+        requires { ⌜ accepted (now page) ≡ true ⌝ }
+        requires { ⌜ length (now chunk) ≤ maxCount ⌝ }
+        ensures { λ n. ⌜ n ≡ length (outs (now (page .entry)) options self (now (chunk .entry))) ⌝ }
+    {
+        let mut none = [0u32; 1];
+        let ran = self.go(page, options, chunk, false, &mut none[0..0]);
+        ran.written
+    }
+
+    // How many characters of the chunk are dropped: a leading FEFF, where no chunk was accepted before. Inner; total.
+    pub fn skips(self, chunk: &[u32]) -> usize
         ensures { λ r. ⌜ r ≡ skipped self (now (chunk .entry)) ⌝ }
     {
         if !self.at_start {
@@ -333,6 +374,28 @@ impl TextInput {
             answer: Answer::Written(written),
             next,
         }
+    }
+}
+
+// The gap to look in next, after a step of c. The test stands here too, so that most steps make no call. Inner: asks for a gap.
+fn gap_after(gap: Range, c: u32) -> Range
+    requires { ⌜ Gap gap ⌝ }
+    ensures { λ r. ⌜ Gap r ⌝ }
+{
+    if (c < 0xa0) | (0x2f7ff < c) {
+        gap
+    } else {
+        next_gap(gap, c)
+    }
+}
+
+// A run of characters from a place on, stored or not. Inner: asks for room.
+fn put_run_if(stores: bool, run: &[u32], queue: &mut [u32], at: usize)
+    requires { ⌜ at + length (now run) ≤ limitOf stores (now queue) ⌝ }
+    ensures { λ r. ⌜ now (queue .exit) ≡ storedIf stores (now (queue .entry)) at (now (run .entry)) ⌝ }
+{
+    if stores {
+        put_run(run, queue, at);
     }
 }
 

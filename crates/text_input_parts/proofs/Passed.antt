@@ -1,11 +1,12 @@
 -- What a refusal that is none shows.
 --     chunk-passed, room-passed   of each half
 --     passed                      and both together
-use mathlib.Core.Path.{_≡_, refl}
+--     with-room                   and where the places are enough, the first half is the whole
+use mathlib.Core.Path.{_≡_, refl, sym}
 use mathlib.Core.Bool.{Bool, true, false, cond, not}
 use Prim.Native.Nat.{ℕ, _+_, _≤_}
 use native.Mathlib.Omega.{arith}
-use borrow.Author.Tests.{ltb-false, eqb-true, eqb-false}
+use borrow.Author.Tests.{le-ltb, ltb-false, eqb-true, eqb-false}
 use lib.Dec.{eqb, ltb}
 use Rattle.common.proofs.Kit.{by}
 use Rattle.common.specs.Answers.{roomRefusal}
@@ -43,3 +44,11 @@ unfolding refusalOf
 passed count page chars n needed room h =
     let b = both-none (chunkRefusal count page chars n) (roomRefusal needed room) h in
     (chunk-passed count page chars n (b .0), room-passed needed room (b .1))
+
+pub with-room : (count : ℕ) (page chars : Bool) (n needed room : ℕ) → needed ≤ room →
+    refusalOf count page chars n needed room ≡ chunkRefusal count page chars n
+unfolding refusalOf
+with-room count page chars n needed room h = rw (le-ltb room needed h) (same (chunkRefusal count page chars n))
+  where
+    same : (a : ℕ) → cond (eqb a 0) 0 a ≡ a
+    same a = by (eqb a 0) (λ e. rw e (sym (eqb-true a 0 e))) (λ e. rw e)

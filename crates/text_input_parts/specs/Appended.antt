@@ -1,7 +1,9 @@
 -- What a step or a finish appends. Document 01, "A chunk comes in" and "A stream finishes".
 use Prim.Native.Nat.{ℕ}
-use mathlib.Core.Bool.{Bool, cond}
+use mathlib.Core.Bool.{Bool, true, false, cond}
 use mathlib.Core.List.{List, [], _∷_}
+use lib.ListN.{length}
+use lib.Seq.{sets}
 use Rattle.replace.specs.declared.Replaced.{Replaced}
 use Rattle.replace.specs.declared.Replaced.the-variants.{One, Two, Three}
 use Rattle.replace.specs.Replace.{chars}
@@ -44,3 +46,14 @@ endMarkOf last = cond (basicTextEnd last) Nothing (Char 0x34F)
 -- 0A where it is owed
 abbrev pub newlineOf : Bool → Lead
 newlineOf owed = cond owed (Char 0x0A) Nothing
+
+-- ---- stores that are made, or counted alone
+-- places with `out` stored from place k on, where it is stored; else as they are
+abbrev pub storedIf : Bool → List ℕ → ℕ → List ℕ → List ℕ
+storedIf true queue k out = sets queue k out
+storedIf false queue k out = queue
+
+-- how many places there are: where nothing is stored, as many as a number of 64 bits counts
+abbrev pub limitOf : Bool → List ℕ → ℕ
+limitOf true queue = length queue
+limitOf false queue = 18446744073709551615

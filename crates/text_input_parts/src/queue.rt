@@ -1,5 +1,6 @@
 // What a step or a finish appends: a lead, an image and marks, and their stores into the lent places from a place on. A store is inner:
-// it asks for room, and answers the place after what it stored.
+// it asks for room, and answers the place after what it stored. The stores of a step can be counted alone: for each variant the test
+// whether to store comes last, so that a step's way to its variant goes on without a test of it.
 use replace::Replaced;
 use text_utils::is_basic_text_end;
 use text_utils::is_basic_text_start;
@@ -12,7 +13,7 @@ ghost use lib.ListN.{length};
 ghost use lib.Seq.{sets};
 ghost use Rattle.page.specs.Page.{accepted};
 ghost use Rattle.replace.specs.Replace.{chars};
-ghost use Rattle.text_input_parts.specs.Appended.{leadChars, imageChars, firstChar, guardOf, lastOf, endMarkOf, newlineOf};
+ghost use Rattle.text_input_parts.specs.Appended.{leadChars, imageChars, firstChar, guardOf, lastOf, endMarkOf, newlineOf, storedIf, limitOf};
 
 // What comes before an image: a character that was pending, or the 34F that guards the image's first character.
 pub enum Lead {
@@ -138,25 +139,57 @@ fn put_replaced(queue: &mut [u32], at: usize, image: Replaced) -> usize
     }
 }
 
-fn put_image(queue: &mut [u32], at: usize, image: Image) -> usize
-    requires { ⌜ at + length (imageChars image) ≤ length (now queue) ⌝ }
-    ensures { λ r. ⌜ r ≡ at + length (imageChars image) ⌝ }
-    ensures { λ r. ⌜ now (queue .exit) ≡ sets (now (queue .entry)) at (imageChars image) ⌝ }
+fn replaced_places(image: Replaced) -> usize
+    ensures { λ r. ⌜ r ≡ length (chars image) ⌝ }
 {
     match image {
-        Image::Empty => at,
-        Image::Chars(r) => put_replaced(queue, at, r),
+        Replaced::One(_) => 1,
+        Replaced::Two(_, _) => 2,
+        Replaced::Three(_, _, _) => 3,
     }
 }
 
-// A lead and an image, one after the other, from a place on. Inner: asks for room.
-pub fn put(queue: &mut [u32], at: usize, lead: Lead, image: Image) -> usize
-    requires { ⌜ at + length (leadChars lead ++ imageChars image) ≤ length (now queue) ⌝ }
-    ensures { λ r. ⌜ r ≡ at + length (leadChars lead ++ imageChars image) ⌝ }
-    ensures { λ r. ⌜ now (queue .exit) ≡ sets (now (queue .entry)) at (leadChars lead ++ imageChars image) ⌝ }
+fn put_lead_if(stores: bool, queue: &mut [u32], at: usize, lead: Lead) -> usize
+    requires { ⌜ at + length (leadChars lead) ≤ limitOf stores (now queue) ⌝ }
+    ensures { λ r. ⌜ r ≡ at + length (leadChars lead) ⌝ }
+    ensures { λ r. ⌜ now (queue .exit) ≡ storedIf stores (now (queue .entry)) at (leadChars lead) ⌝ }
 {
-    let after = put_lead(queue, at, lead);
-    put_image(queue, after, image)
+    match lead {
+        Lead::Nothing => at,
+        Lead::Char(a) => {
+            if stores {
+                queue[at] = a;
+                return at + 1;
+            }
+            at + 1
+        }
+    }
+}
+
+fn put_image_if(stores: bool, queue: &mut [u32], at: usize, image: Image) -> usize
+    requires { ⌜ at + length (imageChars image) ≤ limitOf stores (now queue) ⌝ }
+    ensures { λ r. ⌜ r ≡ at + length (imageChars image) ⌝ }
+    ensures { λ r. ⌜ now (queue .exit) ≡ storedIf stores (now (queue .entry)) at (imageChars image) ⌝ }
+{
+    match image {
+        Image::Empty => at,
+        Image::Chars(r) => {
+            if stores {
+                return put_replaced(queue, at, r);
+            }
+            at + replaced_places(r)
+        }
+    }
+}
+
+// A lead and an image, one after the other, from a place on, stored or counted alone. Inner: asks for room.
+pub fn put_if(stores: bool, queue: &mut [u32], at: usize, lead: Lead, image: Image) -> usize
+    requires { ⌜ at + length (leadChars lead ++ imageChars image) ≤ limitOf stores (now queue) ⌝ }
+    ensures { λ r. ⌜ r ≡ at + length (leadChars lead ++ imageChars image) ⌝ }
+    ensures { λ r. ⌜ now (queue .exit) ≡ storedIf stores (now (queue .entry)) at (leadChars lead ++ imageChars image) ⌝ }
+{
+    let after = put_lead_if(stores, queue, at, lead);
+    put_image_if(stores, queue, after, image)
 }
 
 // Three leads, one after the other, from the first place on. Inner: asks for room.

@@ -7,7 +7,7 @@
 use harness::scripts::lent::lent;
 use harness::scripts::write::Known;
 use harness::scripts::{KINDS, LONG};
-use harness::words::is_operation;
+use harness::words::{is_operation, numbered};
 use std::borrow::Cow;
 use std::collections::BTreeMap;
 use std::fmt;
@@ -58,6 +58,8 @@ struct Met {
     long: BTreeMap<String, usize>,
     /// The writer, whose kept and held characters need places too.
     writer: Known,
+    /// How many places the last chunk that was asked about fills.
+    priced: usize,
     /// The answers by `?`, of which nothing is compared.
     faults: usize,
 }
@@ -101,6 +103,9 @@ impl Met {
         if let Some(number) = refusal(answer) {
             *self.refusals.entry(number).or_default() += 1;
         }
+        if operation.starts_with("S ask") {
+            self.priced = numbered(answer).unwrap_or_default();
+        }
         // Each of its characters is a blank and a digit at least.
         if operation.len() > 2 * LONG {
             self.learn_long(operation, answer);
@@ -115,7 +120,10 @@ impl Met {
             *self.long.entry(format!("{} long", full_name(operation, answer))).or_default() += 1;
             return;
         }
-        let Some(lent) = lent(operation, self.writer.needed).filter(|lent| lent.length >= LONG) else {
+        // A commit needs as many places as it wrote characters; where it is refused, as many as the last asking answered.
+        let known =
+            if operation.starts_with('W') { self.writer.needed } else { numbered(answer).unwrap_or(self.priced) };
+        let Some(lent) = lent(operation, known).filter(|lent| lent.length >= LONG) else {
             return;
         };
         let which = if lent.room == lent.needed && answer.starts_with("ok") {

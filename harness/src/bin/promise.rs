@@ -8,7 +8,7 @@
 use harness::leaves::is_excepted;
 use harness::scripts::lent::lent;
 use harness::scripts::LONG;
-use harness::words::{is_operation, listed};
+use harness::words::{is_operation, listed, numbered};
 use std::fs::read_to_string;
 use std::io;
 use std::process::ExitCode;
@@ -65,9 +65,10 @@ struct Seen {
 
 impl Seen {
     fn learn(&mut self, operation: &str, answer: &str) -> Result<(), &'static str> {
-        // The writer is a fresh one: it keeps and holds nothing.
-        self.over |= answer.starts_with("ok") && lent(operation, 0).is_some_and(|lent| lent.room > lent.needed);
         let words: Vec<&str> = operation.split(' ').take(2).collect();
+        // A commit needs as many places as it wrote characters. The writer is a fresh one: it keeps and holds nothing.
+        let known = if words == ["S", "commit"] { numbered(answer).unwrap_or_default() } else { 0 };
+        self.over |= answer.starts_with("ok") && lent(operation, known).is_some_and(|lent| lent.room > lent.needed);
         match words.as_slice() {
             ["S", "new"] => self.other = std::mem::take(&mut self.queue),
             ["S", _] => self.queue.extend(listed(answer)),

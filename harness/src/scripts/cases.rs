@@ -1,5 +1,5 @@
-//! The cases that document 01 names for the leaves, the scanner and filling, its corners, and the original's own tests,
-//! as one fixed script. Each stands under its name.
+//! The cases that document 01 names for the leaves, the scanner and filling, its corners, those of asking and committing (document 02,
+//! A.4), and the original's own tests, as one fixed script. Each stands under its name.
 
 use super::operation;
 
@@ -104,7 +104,7 @@ const LEAVES: [Case; 4] = [
     ),
 ];
 
-const SCANS: [Case; 8] = [
+const SCANS: [Case; 13] = [
     (
         "options",
         &["S new", "S scan 0 7 85 2028", "S scan 1 7 85 2028", "S scan 2 7 85 2029", "S scan 3 7 85 2029", "S fin e 2"],
@@ -162,6 +162,64 @@ const SCANS: [Case; 8] = [
             "S scan 0 4 1b",
             "S scan 0 4 1b",
             "S scan 0 4 a",
+            "S fin e 2",
+        ],
+    ),
+    (
+        "asking spends no chance to drop FEFF, and a dropped FEFF fills no place",
+        &[
+            "S new",
+            "S ask 0",
+            "S ask 0 feff 61",
+            "S commit 0 0 feff 61",
+            "S commit 0 1 feff 61",
+            "S ask 0 feff",
+            "S fin e 2",
+        ],
+    ),
+    (
+        "an empty commit needs no place and spends the chance",
+        &["S new", "S commit 0 0", "S ask 0 feff 61", "S commit 0 1 feff 61", "S commit 0 2 feff 61", "S fin e 2"],
+    ),
+    (
+        "after 0D, FB03 fills four places",
+        &[
+            "S new",
+            "S commit 0 0 d",
+            "S ask 0 fb03",
+            "S commit 0 3 fb03",
+            "S scan 0 3 fb03",
+            "S commit 0 4 fb03",
+            "S fin e 2",
+        ],
+    ),
+    (
+        "a commit into more places leaves the rest, and an escape fills none",
+        &[
+            "S new",
+            "S ask 0 200d",
+            "S commit 0 9 200d",
+            "S ask 0 1b 5b 31",
+            "S commit 0 0 1b 5b 31",
+            "S commit 0 1 6d 61",
+            "S fin e 2",
+        ],
+    ),
+    (
+        "the refusals of asking and committing, in their order",
+        &[
+            "S new",
+            "S count ffffffff",
+            "P 0 0",
+            "S ask 0 d800",
+            "S commit 0 0 d800",
+            "P 0 1 0 377",
+            "S ask 0 d800",
+            "S commit 0 0 d800",
+            "S ask 0 61",
+            "S commit 0 0 61",
+            "S ask 0",
+            "S commit 0 0",
             "S fin e 2",
         ],
     ),

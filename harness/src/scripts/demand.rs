@@ -1,13 +1,13 @@
-//! Demand 3 from end to end: a text in chunks, with refused calls between them, finished as end of file; then its queue
-//! written whole to a plain writer, which is closed, checked, and isolated as one run. Each text is cut in two ways. In most
+//! Demand 3 from end to end: a text in chunks, scanned or committed, with refused calls between them, finished as end of file;
+//! then its queue written whole to a plain writer, which is closed, checked, and isolated as one run. Each text is cut in two ways. In most
 //! passages every call that is to succeed is lent exactly what it needs. The oracle runs along, so that the queue is known;
 //! the program `promise` holds the answers to the promise.
 
+use super::talk::{commit, Talk};
 use super::{alphabet, operation, page_line};
 use crate::leaves::is_excepted;
 use crate::page::Page;
 use crate::random::Random;
-use crate::replay::Oracle;
 use crate::text_input::scanner::needed;
 use crate::words::listed;
 
@@ -16,32 +16,32 @@ const LONGEST: usize = 5_000;
 const LONGEST_QUEUE: usize = 5_400;
 
 pub fn script(random: &mut Random, count: usize) -> Vec<String> {
-    let mut oracle = Oracle::new(false);
-    let mut lines = Vec::new();
-    while lines.len() < count {
-        lines.extend(passage(random, &mut oracle).unwrap_or_default());
+    let mut talk = Talk::new();
+    while talk.lines.len() < count {
+        let before = talk.lines.len();
+        if passage(random, &mut talk).is_none() {
+            talk.lines.truncate(before);
+        }
     }
-    lines
+    talk.lines
 }
 
 /// A text from the scanner to the writer; none if its queue is too long for one write.
-fn passage(random: &mut Random, oracle: &mut Oracle) -> Option<Vec<String>> {
+fn passage(random: &mut Random, talk: &mut Talk) -> Option<()> {
     let page = right_page(random);
     let (text, options) = (text(random), random.between(0, 3));
     let most_over = if random.once_in(3) { 40 } else { 0 };
-    let mut lines = vec![page_line(&page)];
-    lines.extend(scanned(random, &page, options, &text, most_over));
-    let queue: Vec<u32> =
-        lines.iter().filter_map(|line| oracle.answer(line)).flat_map(|answer| listed(&answer)).collect();
+    talk.say(page_line(&page));
+    let queue = taken(random, talk, &page, options, &text, most_over);
     if queue.len() > LONGEST_QUEUE {
         return None;
     }
-    lines.extend(scanned(random, &page, options, &text, most_over));
+    taken(random, talk, &page, options, &text, most_over);
     let (n, over) = (queue.len(), over(random, most_over));
-    lines.extend(["W new plain".to_owned(), of_queue("W chars", 3 * n + over, &queue), "W close".to_owned()]);
-    lines.push(operation("A check", queue.iter().copied()));
-    lines.push(of_queue("L isolate", if n == 0 { 0 } else { 2 * n + 1 } + over, &queue));
-    Some(lines)
+    talk.lines.extend(["W new plain".to_owned(), of_queue("W chars", 3 * n + over, &queue), "W close".to_owned()]);
+    talk.lines.push(operation("A check", queue.iter().copied()));
+    talk.lines.push(of_queue("L isolate", if n == 0 { 0 } else { 2 * n + 1 } + over, &queue));
+    Some(())
 }
 
 /// Up to so many places more than are needed.
@@ -71,24 +71,37 @@ fn text(random: &mut Random) -> Vec<u32> {
     text
 }
 
-/// The calls on a scanner. The first chunk is not empty if the text is not: an empty one spends the chance to drop FEFF.
-fn scanned(random: &mut Random, page: &[u32], options: u32, text: &[u32], most_over: usize) -> Vec<String> {
-    let mut lines = vec!["S new".to_owned()];
+/// Calls on a scanner, and its queue. The first chunk is not empty if the text is not: an empty one spends the chance to drop FEFF.
+fn taken(random: &mut Random, talk: &mut Talk, page: &[u32], options: u32, text: &[u32], most_over: usize) -> Vec<u32> {
+    talk.say("S new".to_owned());
+    let mut queue = Vec::new();
     let mut rest = text;
     while !rest.is_empty() {
         let least = usize::from(rest.len() == text.len());
         let (chunk, after) = rest.split_at(cut(random, rest.len()).max(least));
         if random.once_in(3) {
-            lines.extend(refused(random, page, options, chunk));
+            for line in refused(random, talk, page, options, chunk) {
+                talk.say(line);
+            }
         }
-        lines.push(scan(options, needed(chunk) + over(random, most_over), chunk));
+        let over = over(random, most_over);
+        let call = if random.once_in(2) {
+            scan(options, needed(chunk) + over, chunk)
+        } else {
+            commit(options, places(talk, options, chunk) + over, chunk)
+        };
+        queue.extend(listed(&talk.say(call)));
         rest = after;
     }
     if random.once_in(3) {
-        lines.push("S fin e 1".to_owned());
+        talk.say("S fin e 1".to_owned());
     }
-    lines.push(format!("S fin e {:x}", 2 + over(random, most_over)));
-    lines
+    queue.extend(listed(&talk.say(format!("S fin e {:x}", 2 + over(random, most_over)))));
+    queue
+}
+
+fn places(talk: &mut Talk, options: u32, chunk: &[u32]) -> usize {
+    talk.places(options, chunk).expect("a right page, characters and a small count")
 }
 
 /// Where the next chunk of so many characters ends: after few of them, but that a long rest is cut at any length or left whole.
@@ -101,12 +114,19 @@ fn cut(random: &mut Random, rest: usize) -> usize {
 }
 
 /// A call that is refused by 8, 1 or 2.
-fn refused(random: &mut Random, page: &[u32], options: u32, chunk: &[u32]) -> Vec<String> {
+fn refused(random: &mut Random, talk: &mut Talk, page: &[u32], options: u32, chunk: &[u32]) -> Vec<String> {
     let longer = [chunk, &[0x61]].concat();
-    match random.below(3) {
+    match random.below(6) {
         0 => vec![scan(options, needed(&longer) - 1, &longer)],
         1 => vec![scan(options, 100, &[chunk, &[random.pick(&alphabet::NO_CHARACTERS)]].concat())],
-        _ => vec![page_line(&[0, 0]), scan(options, 100, chunk), page_line(page)],
+        2 => vec![page_line(&[0, 0]), scan(options, 100, chunk), page_line(page)],
+        // One place under what it fills; where it fills none, no call.
+        3 => {
+            let room = places(talk, options, chunk).checked_sub(1);
+            room.map(|room| commit(options, room, chunk)).into_iter().collect()
+        }
+        4 => vec![commit(options, 100, &[chunk, &[random.pick(&alphabet::NO_CHARACTERS)]].concat())],
+        _ => vec![page_line(&[0, 0]), commit(options, 100, chunk), page_line(page)],
     }
 }
 

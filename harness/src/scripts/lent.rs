@@ -12,17 +12,19 @@ pub struct Lent {
     pub needed: usize,
 }
 
-/// What the operation lends to a call, none if it lends nothing. `before` is what a writer keeps and holds.
-pub fn lent(operation: &str, before: usize) -> Option<Lent> {
+/// What the operation lends to a call, none if it lends nothing. What the operation does not say is `known`: of a writer what it keeps
+/// and holds, of a commit the number of places that its chunk fills.
+pub fn lent(operation: &str, known: usize) -> Option<Lent> {
     let words: Vec<&str> = operation.split(' ').collect();
     let (room, length, needed) = match words.as_slice() {
         ["L", "isolate", room, run @ ..] => (room, run.len(), or_none(run.len(), 2 * run.len() + 1)),
         ["S", "scan", _, room, chunk @ ..] => (room, chunk.len(), or_none(chunk.len(), 3 * chunk.len() + 1)),
+        ["S", "commit", _, room, chunk @ ..] => (room, chunk.len(), known),
         ["S", "fin", _, room] => (room, 0, 2),
-        ["W", "chars", room, text @ ..] => (room, text.len(), before + 3 * text.len()),
+        ["W", "chars", room, text @ ..] => (room, text.len(), known + 3 * text.len()),
         ["W", "bytes", room, text @ ..] => {
             let length = valid_prefix(&bytes(text).ok()?).chars().count();
-            (room, length, before + 3 * length)
+            (room, length, known + 3 * length)
         }
         ["U16", "dec", order, room, text @ ..] => {
             let length = decode(Order::named(order)?, usize::MAX, &bytes(text).ok()?).ok()?.len();

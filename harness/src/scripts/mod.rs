@@ -10,9 +10,11 @@ pub mod isolate;
 pub mod leaves;
 pub mod lent;
 pub mod pages;
+pub mod price;
 pub mod sample;
 pub mod scan;
 pub mod stretches;
+pub mod talk;
 pub mod utf16;
 pub mod utf8;
 pub mod write;
@@ -25,13 +27,18 @@ use crate::random::Random;
 /// refusals. `P wrong` is a page that is not accepted. `A check` has its answer behind it: `yes`, or the fault's kind. `long` after
 /// an operation: on `LONG` characters at least it succeeds with exactly the places that it needs, or checks them. `long short`:
 /// with one place less it is refused by 8.
-pub const KINDS: [(&str, &str, &[u32]); 17] = [
+pub const KINDS: [(&str, &str, &[u32]); 18] = [
     ("pages", "P, P wrong", &[]),
     ("utf8", "L utf8", &[]),
     ("every", "P, L check, L end, L replace, L start, A check yes, A check char, A check start, A check end", &[1, 4]),
     ("leaves", "P, P wrong, L check, L end, L replace, L start", &[1, 2, 4]),
     ("isolate", "P, P wrong, L isolate, L isolate long, L isolate long short", &[1, 2, 8]),
     ("scan", "P, P wrong, S count, S fin, S new, S scan, S scan long, S scan long short", &[1, 2, 8, 10]),
+    (
+        "price",
+        "P, P wrong, S ask, S commit, S commit long, S commit long short, S count, S fin, S new, S scan",
+        &[1, 2, 8, 10],
+    ),
     ("fill", "F", &[1, 7]),
     (
         "check",
@@ -47,7 +54,7 @@ pub const KINDS: [(&str, &str, &[u32]); 17] = [
     ("units", "U16 dec, U16 enc", &[15]),
     (
         "cases",
-        "P, P wrong, L check, L end, L isolate, L start, S count, S fin, S new, S scan, F",
+        "P, P wrong, L check, L end, L isolate, L start, S ask, S commit, S count, S fin, S new, S scan, F",
         &[1, 2, 4, 7, 8, 10],
     ),
     (
@@ -63,18 +70,18 @@ pub const KINDS: [(&str, &str, &[u32]); 17] = [
     ),
     (
         "demand",
-        "P, P wrong, S fin, S new, S scan, S scan long, W chars, W chars long, W close, W new, L isolate, \
+        "P, P wrong, S commit, S commit long, S fin, S new, S scan, S scan long, W chars, W chars long, W close, W new, L isolate, \
          L isolate long, A check yes, A check char",
         &[1, 2, 4, 8],
     ),
     (
         "stretches",
-        "P, P wrong, L isolate, L utf8, S new, S scan, W abandon, W bytes, W chars, W close, W flush, W new",
+        "P, P wrong, L isolate, L utf8, S ask, S commit, S new, S scan, W abandon, W bytes, W chars, W close, W flush, W new",
         &[1, 2, 3, 4, 5, 8, 12],
     ),
     (
         "real",
-        "P, L isolate, S count, S fin, S new, S scan, A check yes, A check start, W abandon, W bytes, W chars, W close, \
+        "P, L isolate, S ask, S commit, S count, S fin, S new, S scan, A check yes, A check start, W abandon, W bytes, W chars, W close, \
          W flush, W held, W new, W places",
         &[1, 3, 4, 5, 6, 8, 9, 10, 11, 12, 13],
     ),
@@ -89,7 +96,7 @@ pub type Lines = Box<dyn Iterator<Item = String>>;
 
 /// `count` operations of a kind; none if there is no such kind. `cases` and `write-cases` are whole whatever the count, in
 /// `every` and `units` the count is a step, one character in so many, in `sample` it is that of the random ones, and `real` has so many of
-/// each of its four kinds. `demand` ends with a whole text, past the count.
+/// each of its five kinds. `demand` ends with a whole text, past the count.
 pub fn script(kind: &str, seed: u64, count: usize) -> Option<Lines> {
     match kind {
         "every" => Some(Box::new(every::script(seed, count))),
@@ -111,6 +118,7 @@ fn drawn(kind: &str, seed: u64, count: usize) -> Option<Vec<String>> {
         "leaves" => leaves::script(random, count),
         "isolate" => isolate::script(random, count),
         "scan" => scan::script(random, count),
+        "price" => price::script(random, count),
         "fill" => fill::script(random, count),
         "check" => check::script(random, count),
         "utf16" => utf16::script(random, count),
@@ -123,10 +131,12 @@ fn drawn(kind: &str, seed: u64, count: usize) -> Option<Vec<String>> {
     Some(lines)
 }
 
-/// The operations of four kinds, with the real page in the place of every other.
+/// The operations of five kinds, with the real page in the place of every other.
 fn with_real_page(seed: u64, count: usize) -> impl Iterator<Item = String> {
-    let lines =
-        ["isolate", "scan", "check", "write"].into_iter().filter_map(move |kind| drawn(kind, seed, count)).flatten();
+    let lines = ["isolate", "scan", "price", "check", "write"]
+        .into_iter()
+        .filter_map(move |kind| drawn(kind, seed, count))
+        .flatten();
     std::iter::once(real_page_line()).chain(lines.filter(|line| !line.starts_with('P')))
 }
 

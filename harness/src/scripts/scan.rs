@@ -7,7 +7,7 @@ use crate::random::Random;
 use crate::text_input::scanner::needed;
 
 /// The longest chunk: the places that it needs are under the protocol's limit.
-const LONGEST: usize = 5_400;
+pub const LONGEST: usize = 5_400;
 
 pub fn script(random: &mut Random, count: usize) -> Vec<String> {
     let mut lines = vec!["S new".to_owned()];
@@ -22,7 +22,7 @@ fn calls(random: &mut Random) -> Vec<String> {
     match random.below(60) {
         0..=4 => vec!["S new".to_owned()],
         5 => pages_between(random),
-        6 => at_limit(random),
+        6 => count_at_limit(random),
         7 => vec![format!("S count {:x}", random.below(8))],
         8..=14 => vec![finish(random)],
         15 => long_scan(random),
@@ -54,11 +54,15 @@ fn pages_between(random: &mut Random) -> Vec<String> {
     lines
 }
 
-/// A count that a chunk takes to its limit or one past it.
-fn at_limit(random: &mut Random) -> Vec<String> {
+/// A count that a chunk takes to its limit or one past it, and the chunk.
+pub fn at_limit(random: &mut Random) -> (u32, Vec<u32>) {
     let rest = if random.once_in(4) { long_chunk(random) } else { chunk(random) };
     let chunk = [vec![0x61], rest].concat();
-    let count = u32::MAX - chunk.len() as u32 + random.between(0, 1);
+    (u32::MAX - chunk.len() as u32 + random.between(0, 1), chunk)
+}
+
+fn count_at_limit(random: &mut Random) -> Vec<String> {
+    let (count, chunk) = at_limit(random);
     vec![format!("S count {count:x}"), scan(random, &chunk), format!("S count {:x}", random.below(8))]
 }
 
@@ -78,12 +82,12 @@ fn fullest(random: &mut Random) -> Vec<String> {
     vec!["S scan 0 4 d".to_owned(), scan_with(random, &chunk, alphabet::close_room)]
 }
 
-fn long_chunk(random: &mut Random) -> Vec<u32> {
+pub fn long_chunk(random: &mut Random) -> Vec<u32> {
     let own = random.once_in(3);
     alphabet::long(random, LONGEST - 1, |random| if own { random.pick(&OWN) } else { alphabet::character(random) })
 }
 
-fn finish(random: &mut Random) -> String {
+pub fn finish(random: &mut Random) -> String {
     let how = random.pick(&["p", "e"]);
     format!("S fin {how} {:x}", random.pick(&[0, 1, 2, 2, 2, 2, 3, 9]))
 }
@@ -93,7 +97,7 @@ fn scan(random: &mut Random, chunk: &[u32]) -> String {
 }
 
 /// A scan that lends places around what is needed.
-fn scan_with(random: &mut Random, chunk: &[u32], room: fn(&mut Random, usize) -> u32) -> String {
+pub fn scan_with(random: &mut Random, chunk: &[u32], room: fn(&mut Random, usize) -> u32) -> String {
     let options = random.between(0, 3);
     let room = room(random, needed(chunk));
     operation("S scan", [options, room].into_iter().chain(chunk.iter().copied()))

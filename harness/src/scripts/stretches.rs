@@ -3,6 +3,7 @@
 //! something awkward at one place, chunks of some thousands with something awkward now and then, and pages whose ranges end
 //! inside a stretch. The oracle runs along with the writer, so that rooms stand at what is needed.
 
+use super::talk::{ask, commit};
 use super::write::Known;
 use super::{alphabet, operation, page_line, utf8_line};
 use crate::leaves::{check, replacement, valid_prefix};
@@ -330,7 +331,7 @@ const BEFORE: [&str; 8] = [
     "S scan 0 7 1b 5d",
 ];
 
-/// A scan: as the record stands, fresh, in text, after CR, in an escape.
+/// A scan, or asking and a commit: as the record stands, fresh, in text, after CR, in an escape.
 fn scan(random: &mut Random, text: Vec<u32>) -> Vec<String> {
     let chunk = with_no_character(random, text);
     let room = alphabet::room(random, needed(&chunk));
@@ -341,7 +342,13 @@ fn scan(random: &mut Random, text: Vec<u32>) -> Vec<String> {
             lines.push(random.pick(&BEFORE).to_owned());
         }
     }
-    lines.push(operation("S scan", [random.between(0, 3), room].into_iter().chain(chunk)));
+    let options = random.between(0, 3);
+    // One in four is asked about, and committed.
+    if random.once_in(4) {
+        lines.extend([ask(options, &chunk), commit(options, room as usize, &chunk)]);
+    } else {
+        lines.push(operation("S scan", [options, room].into_iter().chain(chunk)));
+    }
     lines
 }
 

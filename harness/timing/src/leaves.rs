@@ -184,7 +184,18 @@ pub const SCAN: Leaf = Leaf {
     same: |lent, _, count| lent.scanner.tail(count).map(u32::from).eq(lent.ours[..count].iter().copied()),
 };
 
-/// The same by the export of the crate `basic_text`, on bytes.
+/// Asking how many places a chunk fills, and committing it, from the same record. The Rust has its one call for both.
+pub const PRICE: [Leaf; 2] = [
+    Leaf { name: "ask", ours: |lent, chunk| ours::ask(&lent.page, &chunk.numbers), rust: SCAN.rust, same: nothing },
+    Leaf {
+        name: "commit",
+        ours: |lent, chunk| ours::commit(&lent.page, &chunk.numbers, &mut lent.ours),
+        rust: SCAN.rust,
+        same: SCAN.same,
+    },
+];
+
+/// The scan by the export of the crate `basic_text`, on bytes.
 pub const EXPORTED_SCAN: Leaf = Leaf {
     name: "exported scan",
     ours: |lent, chunk| {

@@ -22,7 +22,7 @@ mod rust;
 
 use clock::{least, Times};
 use inputs::{keeping, writable, INPUTS};
-use leaves::{Chunk, Leaf, Lent, CHECK_RUN, EXPORTED_SCAN, ISOLATE, LEAVES, PAGE, SCAN, UTF16, WRITES};
+use leaves::{Chunk, Leaf, Lent, CHECK_RUN, EXPORTED_SCAN, ISOLATE, LEAVES, PAGE, PRICE, SCAN, UTF16, WRITES};
 use std::process::ExitCode;
 
 /// So many characters are timed at once, as one chunk or as several.
@@ -65,7 +65,8 @@ fn every_character(lent: &mut Lent) -> usize {
     let mut count = 0;
     for c in '\0'..=char::MAX {
         let chunk = &mut Chunk::new(&[c]);
-        for leaf in LEAVES.iter().chain(&UTF16).chain([&CHECK_RUN, &SCAN, &EXPORTED_SCAN]).chain(&WRITES) {
+        for leaf in LEAVES.iter().chain(&UTF16).chain(&PRICE).chain([&CHECK_RUN, &SCAN, &EXPORTED_SCAN]).chain(&WRITES)
+        {
             leaf.agree(lent, chunk);
         }
         count += 1;
@@ -76,7 +77,7 @@ fn every_character(lent: &mut Lent) -> usize {
 /// ns per character.
 fn of_characters(lent: &mut Lent) {
     heading(&format!("ns per character, chunks of {}", grouped(CHUNK)));
-    for leaf in LEAVES.iter().chain(&UTF16).chain([&SCAN, &EXPORTED_SCAN]) {
+    for leaf in LEAVES.iter().chain(&UTF16).chain([&SCAN, &EXPORTED_SCAN]).chain(&PRICE) {
         for input in &INPUTS {
             let text = (input.text)(CHUNK * CHUNKS);
             row(leaf.name, input.name, per_character(leaf, lent, &text, CHUNK));
@@ -113,7 +114,7 @@ fn per_character(leaf: &Leaf, lent: &mut Lent, text: &[char], size: usize) -> Ti
 fn of_calls(lent: &mut Lent) {
     heading("ns per call");
     for (name, text) in [("empty chunk", &[][..]), ("one character", &['a'])] {
-        for leaf in [&SCAN, &EXPORTED_SCAN, &ISOLATE, &CHECK_RUN] {
+        for leaf in [&SCAN, &EXPORTED_SCAN, &PRICE[0], &PRICE[1], &ISOLATE, &CHECK_RUN] {
             row(leaf.name, name, per_call(leaf, lent, text));
         }
     }

@@ -36,6 +36,26 @@ mod linked {
             queue: *mut u32,
             room: usize,
         ) -> usize;
+        /// The same by a commit.
+        pub fn bench_commit(
+            page: *const u32,
+            size: usize,
+            nel: bool,
+            lsps: bool,
+            chunk: *const u32,
+            count: usize,
+            queue: *mut u32,
+            room: usize,
+        ) -> usize;
+        /// How many places the chunk fills from the same record, or 0 for a refusal.
+        pub fn bench_ask(
+            page: *const u32,
+            size: usize,
+            nel: bool,
+            lsps: bool,
+            chunk: *const u32,
+            count: usize,
+        ) -> usize;
         /// Writes what a plain or a CRLF writer that expects no start hands out for the characters to the places from `out`
         /// on, which nothing else has: how many, or 0 for a refusal.
         pub fn bench_write(
@@ -110,6 +130,27 @@ pub fn scan(page: &[u32], chunk: &[u32], queue: &mut [u32]) -> usize {
             queue.len(),
         )
     }
+}
+
+/// Without options.
+pub fn commit(page: &[u32], chunk: &[u32], queue: &mut [u32]) -> usize {
+    unsafe {
+        linked::bench_commit(
+            page.as_ptr(),
+            page.len(),
+            false,
+            false,
+            chunk.as_ptr(),
+            chunk.len(),
+            queue.as_mut_ptr(),
+            queue.len(),
+        )
+    }
+}
+
+/// Without options.
+pub fn ask(page: &[u32], chunk: &[u32]) -> usize {
+    unsafe { linked::bench_ask(page.as_ptr(), page.len(), false, false, chunk.as_ptr(), chunk.len()) }
 }
 
 pub fn write_str(page: &[u32], crlf: bool, chars: &[u32], out: &mut [u32]) -> usize {
