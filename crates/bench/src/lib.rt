@@ -1,5 +1,5 @@
-// Sums over lent slices, one for each leaf, calls of the scanner and writes: what the benchmark calls, exported for Rust. They are proved safe and
-// promise nothing more: what they call has its contract, and the benchmark compares the sums with the Rust's.
+// Sums over lent slices, one for each leaf, calls of the scanner and writes: what the benchmark calls, exported for Rust. They are proved
+// safe and promise nothing more: what they call has its contract, and the benchmark compares the sums with the Rust's.
 use check_char::Checked;
 use check_char::check_basic_text_char;
 use check_run::FaultKind;
