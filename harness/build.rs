@@ -16,10 +16,13 @@ fn main() -> Result<(), Box<dyn Error>> {
     let out = PathBuf::from(variable("OUT_DIR")?);
     let harness = PathBuf::from(variable("CARGO_MANIFEST_DIR")?);
 
+    let unused = CHANGES.iter().find(|change| MODULES.iter().all(|(module, ..)| *module != change.module));
+    if let Some(change) = unused {
+        return Err(failure(change, "there is no such module").into());
+    }
     let mut list = String::new();
-    for (file, child) in MODULES {
-        let module = stem(file)?;
-        let mut text = changed(&sources, file)?;
+    for (module, file, child) in MODULES {
+        let mut text = changed(&sources, module, file)?;
         if let Some(child) = child {
             text.push_str(&child_module(&harness, child));
         }
@@ -35,17 +38,12 @@ fn variable(name: &str) -> Result<String, String> {
     env::var(name).map_err(|error| format!("{name}: {error}"))
 }
 
-/// The name of the module in a file.
-fn stem(file: &str) -> Result<&str, String> {
-    Path::new(file).file_stem().and_then(|name| name.to_str()).ok_or(format!("{file}: no name"))
-}
-
-/// A file of the original with its changes made.
-fn changed(sources: &Path, file: &str) -> Result<String, String> {
+/// The file of a module with the module's changes made.
+fn changed(sources: &Path, module: &str, file: &str) -> Result<String, String> {
     let path = sources.join(file);
     println!("cargo::rerun-if-changed={}", path.display());
     let mut text = fs::read_to_string(&path).map_err(|error| format!("{}: {error}", path.display()))?;
-    for change in CHANGES.iter().filter(|change| change.file == file) {
+    for change in CHANGES.iter().filter(|change| change.module == module) {
         text = apply(change, &text)?;
     }
     Ok(text)
@@ -75,7 +73,7 @@ fn once(change: &Change, text: &str, part: &str) -> Result<usize, String> {
 }
 
 fn failure(change: &Change, why: &str) -> String {
-    format!("change {:?} of {}: {why}", change.name, change.file)
+    format!("change {:?} of {}: {why}", change.name, change.module)
 }
 
 /// The line that makes a file of the harness a child of the module.

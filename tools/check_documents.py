@@ -60,6 +60,8 @@ NO_PROOF = {
     "Read-only memory is short": "it says what the packing is for; how much is saved: docs/MEASURED.md",
     "Two administration systems": "it says what UTF-16 is for; the two orders are those of ByteOrder (utf16)",
     "The import job plans": "it says what asking is for",
+    "Electric vehicles bring": "it says what the option for units is for; samples/batteries.csv",
+    "with it on, they are held": "compared with the Rust so changed: harness/README.md",
 }
 
 # The files of specs/ whose definitions a theorem ties to another source, so that no wrong reading of the one passes by itself.

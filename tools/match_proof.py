@@ -24,7 +24,7 @@ class Case(NamedTuple):
     kind: str  # the type of the answer
     variants: list  # its variants; none of a number
     rows: str  # the table
-    spec: str  # the definition
+    spec: str  # the definition, with what it takes before c
     default: str  # the answer where no row has c
     same: str  # the test that two answers are equal
     sound: str  # its law
@@ -32,9 +32,10 @@ class Case(NamedTuple):
 
 
 CASES = [
-    Case("replace", "replace", "Replaced", ["One", "Two", "Three"], "replacements", "replaceOf", "One c", "same-replaced",
+    Case("replace", "replace", "Replaced", ["One", "Two", "Three"], "replacements", "replaceOf false", "One c", "same-replaced",
          "same-replaced→eq", [
              "use lib.Dec.{T}",
+             "use mathlib.Core.Bool.{false}",
              "use Rattle.replace.specs.declared.Replaced.{Replaced}",
              "use Rattle.replace.specs.declared.Replaced.the-variants.{One, Two, Three}",
              "use Rattle.replace.specs.Replace.{replaceOf, replacements}",
@@ -195,11 +196,11 @@ def proof(case):
         "right = tt",
         "",
         f"key : (ks : List ℕ) (c : ℕ) (a : {kind}) → T (only {same} {sound} a {rows} (points ks)) → OneOf ks c → a ≡ {spec} c",
-        f"unfolding {spec}",
+        f"unfolding {spec.split()[0]}",
         f"key ks c a t o = finds-one {same} {sound} a ({default}) {rows} (points ks) t (points-at ks o)",
         "",
         f"way : (i : ℕ) (r : tie.At-match-rest) → Holds (nth ways i) ({here}) ({other}) ({spec} ({here}))",
-        f"unfolding {spec}",
+        f"unfolding {spec.split()[0]}",
         f"way i r = way-holds {same} {sound} {rows} keys ways ({here}) ({other}) right (r .match .rest) i",
         "",
         f"pub {function}-spec : {{M : Type 1}} → statement M",

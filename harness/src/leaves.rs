@@ -1,8 +1,9 @@
 //! The entries on one character, UTF-8 and isolation: the original's functions, and what document 01 asks before them.
-//! A refusal is its number.
+//! A refusal is its number. `units` is the option of document 02, A.5.
 
 use crate::words::characters;
 use crate::{check_basic_text_char, is_basic_text_end, is_basic_text_start, replace, BasicTextError, PreNormalization};
+use crate::{check_units, replace_units};
 use std::collections::VecDeque;
 
 /// "1 a value in D800..DFFF or above 10FFFF", which is what is no `char`.
@@ -11,8 +12,9 @@ fn character(value: u32) -> Result<char, u32> {
 }
 
 /// The replacement of a character.
-pub fn replacement(value: u32) -> Result<Vec<char>, u32> {
+pub fn replacement(units: bool, value: u32) -> Result<Vec<char>, u32> {
     let mut queue = VecDeque::new();
+    let replace = if units { replace_units::replace } else { replace };
     replace(character(value)?, &mut queue);
     Ok(queue.into())
 }
@@ -32,9 +34,9 @@ pub fn end(value: u32) -> Result<bool, u32> {
 
 /// Whether a character is one of those that a queue can hold and a writer refuses: the check asks for another, and the
 /// replacement is the same.
-pub fn is_excepted(value: u32) -> bool {
-    let same = replacement(value).is_ok_and(|out| out.iter().copied().map(u32::from).eq([value]));
-    same && check(value).is_ok_and(|reason| reason.is_some_and(|reason| reason.place == 16))
+pub fn is_excepted(units: bool, value: u32) -> bool {
+    let same = replacement(units, value).is_ok_and(|out| out.iter().copied().map(u32::from).eq([value]));
+    same && check(units, value).is_ok_and(|reason| reason.is_some_and(|reason| reason.place == 16))
 }
 
 /// Why a character is refused by 4.
@@ -76,8 +78,9 @@ impl From<&BasicTextError> for Reason {
 }
 
 /// Checks one character. "Entries on one character give 1 .., the check then 4."
-pub fn check(value: u32) -> Result<Option<Reason>, u32> {
-    let answer = check_basic_text_char(character(value)?);
+pub fn check(units: bool, value: u32) -> Result<Option<Reason>, u32> {
+    let check = if units { check_units::check_basic_text_char } else { check_basic_text_char };
+    let answer = check(character(value)?);
     Ok(answer.err().map(|error| Reason::from(&error)))
 }
 

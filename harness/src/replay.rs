@@ -7,7 +7,7 @@ use crate::check_run::check_run;
 use crate::leaves::{self, Reason};
 use crate::page::Page;
 use crate::properties;
-use crate::text_input::scanner::{fill, Scanner};
+use crate::text_input::scanner::{fill, Options, Scanner};
 use crate::text_output::writer::{Mode, Refusal, Writer, MOST_PLACES};
 use crate::utf16::{self, Order};
 use crate::words::{bytes, bytes_list, characters_list, is_operation, number, numbers, pairs, Fault, MOST_BYTES};
@@ -72,8 +72,8 @@ impl Oracle {
 
     fn leaf(&mut self, words: &[&str]) -> Answer {
         match words {
-            ["replace", c] => Ok(replaced(number(c)?)),
-            ["check", c] => Ok(checked(number(c)?)),
+            ["replace", c, units @ ..] => Ok(replaced(units_of(units)?, number(c)?)),
+            ["check", c, units @ ..] => Ok(checked(units_of(units)?, number(c)?)),
             ["start", c] => Ok(class(leaves::start(self.page, number(c)?))),
             ["end", c] => Ok(class(leaves::end(number(c)?))),
             ["utf8", text @ ..] => Ok(decoded(&bytes(text)?)),
@@ -96,24 +96,19 @@ impl Oracle {
                 "count".to_owned()
             }
             ["scan", options, places, chunk @ ..] => {
-                let (nel, lsps) = options_of(options)?;
-                let (places, chunk) = (room(places)?, numbers(chunk)?);
-                let answer = self.scanner.scan(self.page, nel, lsps, places, &chunk);
+                let (options, places, chunk) = (options_of(options)?, room(places)?, numbers(chunk)?);
+                let answer = self.scanner.scan(self.page, options, places, &chunk);
                 self.appended(answer)
             }
             ["commit", options, places, chunk @ ..] => {
-                let (nel, lsps) = options_of(options)?;
-                let (places, chunk) = (room(places)?, numbers(chunk)?);
-                let answer = self.scanner.commit(self.page, nel, lsps, places, &chunk);
+                let (options, places, chunk) = (options_of(options)?, room(places)?, numbers(chunk)?);
+                let answer = self.scanner.commit(self.page, options, places, &chunk);
                 self.appended(answer)
             }
-            ["ask", options, chunk @ ..] => {
-                let (nel, lsps) = options_of(options)?;
-                match self.scanner.ask(self.page, nel, lsps, &numbers(chunk)?) {
-                    Ok(places) => format!("ok n={places:x}"),
-                    Err(number) => format!("no {number}"),
-                }
-            }
+            ["ask", options, chunk @ ..] => match self.scanner.ask(self.page, options_of(options)?, &numbers(chunk)?) {
+                Ok(places) => format!("ok n={places:x}"),
+                Err(number) => format!("no {number}"),
+            },
             ["fin", how @ ("p" | "e"), places] => {
                 let answer = self.scanner.finish(*how == "e", room(places)?);
                 self.appended(answer)
@@ -227,24 +222,33 @@ fn room(word: &str) -> Result<usize, Fault> {
     Ok(places)
 }
 
-/// "OPT: 1 NEL, 2 LS/PS (added)"
-fn options_of(word: &str) -> Result<(bool, bool), Fault> {
+/// "OPT: 1 NEL, 2 LS/PS (added)", "4 is the option of A.5, added to 1 and 2"
+fn options_of(word: &str) -> Result<Options, Fault> {
     let options = number(word)?;
-    if options > 3 {
+    if options > 7 {
         return Err("options");
     }
-    Ok((options & 1 != 0, options & 2 != 0))
+    Ok(Options::of(options))
 }
 
-fn replaced(value: u32) -> String {
-    match leaves::replacement(value) {
+/// The words after a character: `1` is "with the option on; without the last word off".
+fn units_of(words: &[&str]) -> Result<bool, Fault> {
+    match words {
+        [] => Ok(false),
+        ["1"] => Ok(true),
+        _ => Err("word"),
+    }
+}
+
+fn replaced(units: bool, value: u32) -> String {
+    match leaves::replacement(units, value) {
         Ok(out) => format!("ok n={:x} out={}", out.len(), characters_list(&out)),
         Err(refusal) => format!("no {refusal}"),
     }
 }
 
-fn checked(value: u32) -> String {
-    match leaves::check(value) {
+fn checked(units: bool, value: u32) -> String {
+    match leaves::check(units, value) {
         Ok(None) => "ok".to_owned(),
         Ok(Some(reason)) => format!("no 4{}", reason_words(&reason)),
         Err(refusal) => format!("no {refusal}"),

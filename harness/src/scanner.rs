@@ -1,6 +1,6 @@
 //! Scan, finish and filling of document 01 over the original's `TextInput`, of which this is a child module, with asking and
-//! committing of document 02 (A.4). The conversions are `process_raw_string` and `read_with_status`; the refusals and the count
-//! are the documents'.
+//! committing of document 02 (A.4) and its option for the signs for units (A.5). The conversions are `process_raw_string` and
+//! `read_with_status`; the refusals and the count are the documents'.
 
 use super::{State, TextInput};
 use crate::words::characters;
@@ -50,6 +50,28 @@ impl fmt::Display for Record {
     }
 }
 
+/// The options of a call.
+#[derive(Clone, Copy, Default)]
+pub struct Options {
+    pub nel: bool,
+    pub lsps: bool,
+    /// "replacement turns U+2126 into U+03A9, U+212A into U+004B and U+212B into U+00C5"
+    pub units: bool,
+}
+
+impl Options {
+    /// By their number: 1 NEL, 2 LS/PS, 4 units, added. Other bits have no meaning.
+    pub fn of(number: u32) -> Self {
+        Self { nel: number & 1 != 0, lsps: number & 2 != 0, units: number & 4 != 0 }
+    }
+
+    fn put(self, input: &mut TextInput) {
+        input.nel_compatibility = self.nel;
+        input.lsps_compatibility = self.lsps;
+        input.units_compatibility = self.units;
+    }
+}
+
 /// The states in the order of their numbers.
 const STATES: [State; 9] = [
     State::Ground(false),
@@ -81,29 +103,29 @@ fn reader(status: Status) -> TextReader<Source> {
 
 impl Scanner {
     /// Takes a chunk, and answers how many characters it appends. "Order: 2, 1, 10, 8."
-    pub fn scan(&mut self, page: bool, nel: bool, lsps: bool, room: usize, chunk: &[u32]) -> Result<usize, u32> {
+    pub fn scan(&mut self, page: bool, options: Options, room: usize, chunk: &[u32]) -> Result<usize, u32> {
         self.refuse(page, chunk)?;
         if room < needed(chunk) {
             return Err(8);
         }
-        Ok(self.take(nel, lsps, chunk))
+        Ok(self.take(options, chunk))
     }
 
     /// How many characters a chunk would append: as many as it appends to a copy. "Asking changes nothing and is refused by 2, 1
     /// and 10 as a scan is."
-    pub fn ask(&self, page: bool, nel: bool, lsps: bool, chunk: &[u32]) -> Result<usize, u32> {
+    pub fn ask(&self, page: bool, options: Options, chunk: &[u32]) -> Result<usize, u32> {
         self.refuse(page, chunk)?;
         let mut copy = Self::default();
         copy.put(self.record());
-        Ok(copy.take(nel, lsps, chunk))
+        Ok(copy.take(options, chunk))
     }
 
     /// Takes a chunk as a scan does. "8 stands there for fewer places than the true number."
-    pub fn commit(&mut self, page: bool, nel: bool, lsps: bool, room: usize, chunk: &[u32]) -> Result<usize, u32> {
-        if room < self.ask(page, nel, lsps, chunk)? {
+    pub fn commit(&mut self, page: bool, options: Options, room: usize, chunk: &[u32]) -> Result<usize, u32> {
+        if room < self.ask(page, options, chunk)? {
             return Err(8);
         }
-        Ok(self.take(nel, lsps, chunk))
+        Ok(self.take(options, chunk))
     }
 
     /// The refusals by 2, 1 and 10.
@@ -119,11 +141,10 @@ impl Scanner {
     }
 
     /// `process_raw_string` on a chunk that is not refused, and how many characters it appends.
-    fn take(&mut self, nel: bool, lsps: bool, chunk: &[u32]) -> usize {
+    fn take(&mut self, options: Options, chunk: &[u32]) -> usize {
         self.count += chunk.len() as u32;
         let input = &mut self.reader.input;
-        input.nel_compatibility = nel;
-        input.lsps_compatibility = lsps;
+        options.put(input);
         input.raw_string.clear();
         input.raw_string.extend(chunk.iter().filter_map(|value| char::from_u32(*value)));
         self.appended(|reader| reader.input.process_raw_string())
@@ -183,8 +204,9 @@ impl Scanner {
 
     /// `process_raw_string` alone, for the benchmark: on a text, which it has for the call, from a record as after one
     /// character. The queue is emptied first and keeps its places. How many characters it has then.
-    pub fn clean(&mut self, text: &mut String) -> usize {
+    pub fn clean(&mut self, options: Options, text: &mut String) -> usize {
         let input = &mut self.reader.input;
+        options.put(input);
         input.state = State::Ground(false);
         input.expect_starter = false;
         input.at_start = false;
@@ -197,13 +219,12 @@ impl Scanner {
 
     /// `process_raw_string` on the next part of a stream, for the pipeline. The queue goes out, but for its last character,
     /// for which a finish asks. Nothing is done for an empty part: it would spend the chance to drop U+FEFF.
-    pub fn feed(&mut self, nel: bool, lsps: bool, part: &mut String, out: &mut String) {
+    pub fn feed(&mut self, options: Options, part: &mut String, out: &mut String) {
         if part.is_empty() {
             return;
         }
         let input = &mut self.reader.input;
-        input.nel_compatibility = nel;
-        input.lsps_compatibility = lsps;
+        options.put(input);
         std::mem::swap(&mut input.raw_string, part);
         input.process_raw_string();
         std::mem::swap(&mut input.raw_string, part);

@@ -75,14 +75,31 @@ numbers-back (n ∷ ns) h = rw (number-back n (h 0), numbers-back ns (wide-more 
 
 -- ---- what goes over in one direction only
 -- each choice of options has a number
-options-by : (nel lsps : Bool) → optionsOf (flagNumber nel + 2 * flagNumber lsps) ≡ record { «nel_compatibility» = nel; «lsps_compatibility» = lsps }
-options-by true true = refl
-options-by true false = refl
-options-by false true = refl
-options-by false false = refl
+options-by : (nel lsps units : Bool) →
+    optionsOf (flagNumber nel + 2 * flagNumber lsps + 4 * flagNumber units)
+    ≡ record { «nel_compatibility» = nel; «lsps_compatibility» = lsps; «units_compatibility» = units }
+options-by true true true = refl
+options-by true true false = refl
+options-by true false true = refl
+options-by true false false = refl
+options-by false true true = refl
+options-by false true false = refl
+options-by false false true = refl
+options-by false false false = refl
 
-pub options-back : (o : Options) → optionsOf (flagNumber (o .«nel_compatibility») + 2 * flagNumber (o .«lsps_compatibility»)) ≡ o
-options-back o = options-by (o .«nel_compatibility») (o .«lsps_compatibility»)
+pub options-back : (o : Options) →
+    optionsOf (flagNumber (o .«nel_compatibility») + 2 * flagNumber (o .«lsps_compatibility») + 4 * flagNumber (o .«units_compatibility»)) ≡ o
+options-back o = options-by (o .«nel_compatibility») (o .«lsps_compatibility») (o .«units_compatibility»)
+
+-- the other bits have no meaning
+pub options-others : (n : ℕ) → optionsOf n ≡ optionsOf (n % 8)
+options-others n =
+    let a : n % 2 ≡ n % 8 % 2 = omega arith in
+    let halves : n / 2 ≡ 4 * (n / 8) + n % 8 / 2 = omega arith in
+    let quarters : n / 4 ≡ 2 * (n / 8) + n % 8 / 4 = omega arith in
+    let b : n / 2 % 2 ≡ n % 8 / 2 % 2 = rw halves (omega arith) in
+    let c : n / 4 % 2 ≡ n % 8 / 4 % 2 = rw quarters (omega arith) in
+    rw (← a, ← b, ← c)
 
 -- a reply says what the call answered
 pub reply-written : (n : ℕ) (next : TextInput) (places : List ℕ) →

@@ -53,9 +53,11 @@ recordOf r =
       count = r .count;
     }
 
--- bit 0: 85 ends a line; bit 1: 2028 and 2029 do; the other bits have no meaning. Document 01 leaves this open.
+-- bit 0: 85 ends a line; bit 1: 2028 and 2029 do; bit 2: the signs for units are replaced by their letters; the other bits have no
+-- meaning. The documents leave this open.
 abbrev pub optionsOf : ℕ → Options
-optionsOf n = record { «nel_compatibility» = eqb (n % 2) 1; «lsps_compatibility» = eqb (n / 2 % 2) 1 }
+optionsOf n =
+    record { «nel_compatibility» = eqb (n % 2) 1; «lsps_compatibility» = eqb (n / 2 % 2) 1; «units_compatibility» = eqb (n / 4 % 2) 1 }
 
 -- ---- a call's answer
 abbrev pub recordNumbers : TextInput → Record

@@ -27,13 +27,14 @@ pub fn record_of(r: Record) -> TextInput
     }
 }
 
-// By the two lowest bits.
+// By the three lowest bits.
 pub fn options_of(n: u32) -> Options
     ensures { λ r. ⌜ r ≡ optionsOf n ⌝ }
 {
     Options {
         nel_compatibility: n % 2 == 1,
         lsps_compatibility: n / 2 % 2 == 1,
+        units_compatibility: n / 4 % 2 == 1,
     }
 }
 

@@ -239,12 +239,14 @@ pub extern "C" fn bench_scan(
     page: &[u32],
     nel: bool,
     lsps: bool,
+    units: bool,
     chunk: &[u32],
     queue: &mut [u32],
 ) -> usize {
     let options = Options {
         nel_compatibility: nel,
         lsps_compatibility: lsps,
+        units_compatibility: units,
     };
     places_filled(in_text().scan(page, options, chunk, queue))
 }
@@ -255,22 +257,31 @@ pub extern "C" fn bench_commit(
     page: &[u32],
     nel: bool,
     lsps: bool,
+    units: bool,
     chunk: &[u32],
     queue: &mut [u32],
 ) -> usize {
     let options = Options {
         nel_compatibility: nel,
         lsps_compatibility: lsps,
+        units_compatibility: units,
     };
     places_filled(commit(in_text(), page, options, chunk, queue))
 }
 
 // How many places a chunk fills, from the same record; 0 where asking is refused.
 #[no_mangle]
-pub extern "C" fn bench_ask(page: &[u32], nel: bool, lsps: bool, chunk: &[u32]) -> usize {
+pub extern "C" fn bench_ask(
+    page: &[u32],
+    nel: bool,
+    lsps: bool,
+    units: bool,
+    chunk: &[u32],
+) -> usize {
     let options = Options {
         nel_compatibility: nel,
         lsps_compatibility: lsps,
+        units_compatibility: units,
     };
     let price = ask(in_text(), page, options, chunk);
     match price {

@@ -6,7 +6,7 @@
 --     named                     the reasons by name, at one character each, as the Rust's `check_basic_text_char` has them
 --     reason-back               a reason as plain numbers: the first of them, so many as it says, are the reason's
 use Prim.Native.Nat.{ℕ}
-use mathlib.Core.Bool.{false, cond}
+use mathlib.Core.Bool.{Bool, true, false, cond}
 use mathlib.Core.List.{List, [], _∷_, map}
 use mathlib.Core.Path.{_≡_, refl, ap}
 use lib.Dec.{eqb}
@@ -20,7 +20,7 @@ use Rattle.check_char.specs.declared.Checked.the-variants.{Ok, Err}
 use Rattle.check_char.specs.declared.Answer.{Answer}
 use Rattle.check_char.specs.declared.Answer.the-variants.{Accepted, NotAChar, Refused}
 use Rattle.check_char.specs.declared.numbers.Reason.{Reason}
-use Rattle.check_char.specs.Check.{reasonOf, errorNumbers, reasonNumbers, checkNumbers, checkAnswerNumbers, checkAnswer}
+use Rattle.check_char.specs.Check.{reasonOf, errorNumbers, reasonNumbers, checkAnswerNumbers, checkAnswer}
 use Rattle.check_char.specs.Numbers.{reasonBy}
 
 -- the reason of these numbers
@@ -90,8 +90,8 @@ check-back (Refused e) = ap Refused (error-back e)
 abbrev Named : Type 0
 Named = ℕ × BasicTextError
 
-abbrev names : List Named
-names =
+abbrev names : Bool → List Named
+names units =
     (0x7f, ControlCode 0x7f) ∷
     (0x206a, DeprecatedFormatChar 0x206a) ∷
     (0x202a, BidiFormatChar) ∷
@@ -104,13 +104,15 @@ names =
     (0xfffc, OutOfBand) ∷
     (0x17b4, Omit 0x17b4) ∷
     (0x17d8, Beyyal) ∷
-    (0x2126, Replacement (record { count = 1; first = 0x2126; second = 0; third = 0 }) 0x2126) ∷
+    (0x2126, Replacement (record { count = 1; first = cond units 0x3a9 0x2126; second = 0; third = 0 }) 0x2126) ∷
     []
 
 -- "4 a character refused by `check_basic_text_char` .. with the reason"
-pub named : map (λ (r : Named). checkAnswerNumbers (Refused (r .1))) names ≡ map (λ (r : Named). checkAnswer (r .0)) names
-unfolding isChar replaceOf reasonOf checkNumbers
-named = refl
+pub named : (units : Bool) →
+    map (λ (r : Named). checkAnswerNumbers (Refused (r .1))) (names units) ≡ map (λ (r : Named). checkAnswer units (r .0)) (names units)
+unfolding isChar replaceOf reasonOf
+named true = refl
+named false = refl
 
 -- the fields in order
 abbrev listed : Reason → List ℕ

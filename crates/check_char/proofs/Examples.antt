@@ -1,9 +1,11 @@
--- What the Rust's `check_basic_text_char` gives, by computing.
+-- What the Rust's `check_basic_text_char` gives, with the option for units off, and with the names that it adds on, by computing.
 --     everywhere    the reason at every character: the table and the runs of the Rust's answers say the same
---     examples      the entry's whole answers at the first and the last character of each run of like answers, as the oracle of the
---                   comparison gives them
+--     examples      the entry's whole answers at the first and the last character of each run of like answers, with the option on and
+--                   off, as the oracle of the comparison gives them
+--     written       what the check says to a write of the signs for units: each names itself
 use Prim.Native.Nat.{ℕ, _<_}
 use mathlib.Core.Path.{_≡_, refl}
+use mathlib.Core.Bool.{Bool, true, false}
 use mathlib.Core.List.{List, [], _∷_, _++_, map}
 use native.Mathlib.Omega.{arith}
 use lib.Dec.{eqb, eqb→eq}
@@ -55,8 +57,19 @@ gone =
 -- and with itself
 abbrev own : List ℕ
 own =
-    0x2126 ∷ 0x212a ∷ 0x212b ∷ 0xf900 ∷ 0xfa0d ∷ 0xfa10 ∷ 0xfa12 ∷ 0xfa15 ∷ 0xfa1e ∷ 0xfa20 ∷ 0xfa22 ∷ 0xfa25 ∷
+    0xf900 ∷ 0xfa0d ∷ 0xfa10 ∷ 0xfa12 ∷ 0xfa15 ∷ 0xfa1e ∷ 0xfa20 ∷ 0xfa22 ∷ 0xfa25 ∷
     0xfa26 ∷ 0xfa2a ∷ 0xfa6d ∷ 0xfa70 ∷ 0xfad9 ∷ 0x2f800 ∷ 0x2fa1d ∷ []
+
+-- the signs for ohm, kelvin and angstrom: with their letters with the option on, with themselves with it off
+abbrev sign-rows : Bool → List Example
+sign-rows true =
+    (0x2126, 4 ∷ 16 ∷ 0x2126 ∷ 1 ∷ 0x3a9 ∷ 0 ∷ 0 ∷ []) ∷
+    (0x212a, 4 ∷ 16 ∷ 0x212a ∷ 1 ∷ 0x4b ∷ 0 ∷ 0 ∷ []) ∷
+    (0x212b, 4 ∷ 16 ∷ 0x212b ∷ 1 ∷ 0xc5 ∷ 0 ∷ 0 ∷ []) ∷ []
+sign-rows false =
+    (0x2126, 4 ∷ 16 ∷ 0x2126 ∷ 1 ∷ 0x2126 ∷ 0 ∷ 0 ∷ []) ∷
+    (0x212a, 4 ∷ 16 ∷ 0x212a ∷ 1 ∷ 0x212a ∷ 0 ∷ 0 ∷ []) ∷
+    (0x212b, 4 ∷ 16 ∷ 0x212b ∷ 1 ∷ 0x212b ∷ 0 ∷ 0 ∷ []) ∷ []
 
 -- refused for 9
 abbrev nonCharacters : List ℕ
@@ -104,6 +117,14 @@ rows =
 
 -- "`check_basic_text_char` accepts 1B. Reason 16 for 2126 names 2126 itself."; "Entries on one character give 1 .. the check then 4.";
 -- "reasons 2, 3, 13, 16 carry it, 16 also its one to three replacements."
-pub examples : map (λ (r : Example). checkAnswer (r .0)) rows ≡ map (λ (r : Example). r .1) rows
-unfolding isChar replaceOf reasonOf checkNumbers
-examples = refl
+-- "The check's own entry takes it too, and with it on reason 16 for the three names these replacements"
+pub examples : (units : Bool) →
+    map (λ (r : Example). checkAnswer units (r .0)) (sign-rows units ++ rows) ≡ map (λ (r : Example). r .1) (sign-rows units ++ rows)
+unfolding isChar replaceOf reasonOf
+examples true = refl
+examples false = refl
+
+-- "a write's 4 stays as it is"; "Reason 16 for 2126 names 2126 itself."
+pub written : map checkNumbers (0x2126 ∷ 0x212a ∷ 0x212b ∷ []) ≡ map (λ c. 16 ∷ c ∷ 1 ∷ c ∷ 0 ∷ 0 ∷ []) (0x2126 ∷ 0x212a ∷ 0x212b ∷ [])
+unfolding replaceOf reasonOf checkNumbers
+written = refl

@@ -8,7 +8,7 @@ use lib.Dec.{eqb, leb, ltb}
 use Rattle.common.specs.Answers.{refusalIn}
 use Rattle.common.specs.Order.{_when_, firstOf}
 use Rattle.unicode.specs.Chars.{isChar}
-use Rattle.check_char.specs.Check.{reasonOf, checkNumbers, checkAnswer}
+use Rattle.check_char.specs.Check.{reasonOf, checkBy, checkAnswer}
 
 -- by the flags of the two tests
 by-flags : (b z : Bool) (ns : List ℕ) →
@@ -19,7 +19,7 @@ by-flags false false ns = refl
 
 -- "Entries on one character give 1 .. the check then 4.": "1 a value in D800..DFFF or above 10FFFF.", "4 a character refused by
 -- `check_basic_text_char`"
-pub check-order : (c : ℕ) →
-    refusalIn (checkAnswer c) ≡ firstOf (1 when ((leb 0xd800 c && leb c 0xdfff) || ltb 0x10ffff c) ∷ 4 when not (eqb (reasonOf c) 0) ∷ [])
+pub check-order : (units : Bool) (c : ℕ) →
+    refusalIn (checkAnswer units c) ≡ firstOf (1 when ((leb 0xd800 c && leb c 0xdfff) || ltb 0x10ffff c) ∷ 4 when not (eqb (reasonOf c) 0) ∷ [])
 unfolding isChar
-check-order c = by-flags ((leb 0xd800 c && leb c 0xdfff) || ltb 0x10ffff c) (eqb (reasonOf c) 0) (checkNumbers c)
+check-order units c = by-flags ((leb 0xd800 c && leb c 0xdfff) || ltb 0x10ffff c) (eqb (reasonOf c) 0) (checkBy units c)

@@ -1,6 +1,7 @@
 -- The check's lists held to Unicode's: each law by one test that antt computes over the rows and the spans of a property
 -- (`agrees` of replace, Spans), at every number up to 10FFFF.
---     excepted-are      the excepted are characters with a singleton decomposition: three signs, and all such ideographs of two blocks
+--     excepted-are      the excepted are characters with a singleton decomposition: all such ideographs of two blocks and, with the
+--                       option off, three signs
 --     clean-are         a cleaned text may hold what is accepted or one of these, and no ESC
 --     control-codes     reason 2: the controls but for tab, newline and ESC
 --     deprecated-ones   reason 3: the deprecated ones of 2060..206F
@@ -20,7 +21,8 @@ use Rattle.replace.proofs.Rows.{Piece, _until_, here}
 use Rattle.replace.proofs.Spans.{agree, agrees, spans-agree}
 use Rattle.replace.proofs.Nonchars.{nonchars-are}
 use Rattle.check_char.specs.Check.{excepted, refusals, reasonOf, clean}
-use Rattle.check_char.specs.Unicode.{control, lineSeparator, paragraphSeparator, deprecated, bidiControl, noncharacterCodePoint, compatibilityIdeographs, singletonDecomposition}
+use Rattle.check_char.specs.Unicode.{control, lineSeparator, paragraphSeparator, deprecated, bidiControl, noncharacterCodePoint, singletonDecomposition}
+use Rattle.check_char.specs.Excepted.{exceptedAmong, exceptedByUnicode}
 
 abbrev line : List Piece
 line = 0 until 0x110000 ∷ []
@@ -45,15 +47,14 @@ all-given : (r : ℕ) (ys : List Span) → T (given-at r ys []) → (c : ℕ) �
 all-given r ys t c h = given r ys [] t c h ∙ and-true (inSpans ys c)
 
 -- "The ideographs excepted are those that `check_basic_text_char` lists."
-pub excepted-are : (c : ℕ) → c < 0x110000 →
-    inSpans excepted c ≡ inSpans singletonDecomposition c && inSpans (one 0x2126 ∷ one 0x212a ∷ one 0x212b ∷ compatibilityIdeographs) c
-excepted-are c h =
-    spans-agree _&&_ singletonDecomposition (one 0x2126 ∷ one 0x212a ∷ one 0x212b ∷ compatibilityIdeographs) excepted line tt
-    (here {x = 0} (omega arith) h)
+-- "With it on, a cleaned text's only remaining exceptions are the CJK compatibility ideographs."
+pub excepted-are : (units : Bool) (c : ℕ) → c < 0x110000 → inSpans (excepted units) c ≡ exceptedByUnicode units c
+excepted-are true c h = spans-agree _&&_ singletonDecomposition (exceptedAmong true) (excepted true) line tt (here {x = 0} (omega arith) h)
+excepted-are false c h = spans-agree _&&_ singletonDecomposition (exceptedAmong false) (excepted false) line tt (here {x = 0} (omega arith) h)
 
-pub clean-are : (x : ℕ) → x < 0x110000 →
-    clean x ≡ (eqb (reasonOf x) 0 || (inSpans singletonDecomposition x && inSpans (one 0x2126 ∷ one 0x212a ∷ one 0x212b ∷ compatibilityIdeographs) x)) && not (eqb x 0x1b)
-clean-are x h = ap (λ (b : Bool). (eqb (reasonOf x) 0 || b) && not (eqb x 0x1b)) (excepted-are x h)
+pub clean-are : (units : Bool) (x : ℕ) → x < 0x110000 →
+    clean units x ≡ (eqb (reasonOf x) 0 || exceptedByUnicode units x) && not (eqb x 0x1b)
+clean-are units x h = ap (λ (b : Bool). (eqb (reasonOf x) 0 || b) && not (eqb x 0x1b)) (excepted-are units x h)
 
 -- "`check_basic_text_char` accepts 1B."
 pub control-codes : (c : ℕ) → c < 0x110000 → eqb (reasonOf c) 2 ≡ inSpans control c && not (inSpans (0x9 to 0xa ∷ one 0x1b ∷ []) c)

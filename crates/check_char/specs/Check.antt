@@ -1,7 +1,8 @@
--- Which characters are refused, and why: `check_basic_text_char` of internals/src/check.rs.
+-- Which characters are refused, and why: `check_basic_text_char` of internals/src/check.rs, and beyond it, by the option for units, what
+-- the reason for three signs names.
 use Prim.Native.Nat.{ℕ}
-use mathlib.Core.Bool.{Bool, true, cond, not, _&&_, _||_}
-use mathlib.Core.List.{List, [], _∷_}
+use mathlib.Core.Bool.{Bool, true, false, cond, not, _&&_, _||_}
+use mathlib.Core.List.{List, [], _∷_, _++_}
 use lib.Dec.{eqb}
 use Rattle.unicode.specs.Chars.{isChar}
 use Rattle.replace.specs.declared.Replaced.{Replaced}
@@ -19,15 +20,17 @@ use Rattle.check_char.specs.declared.Categorized.the-variants.{Char, Sub
 use Rattle.check_char.specs.declared.Answer.{Answer}
 use Rattle.check_char.specs.declared.Answer.the-variants.{Accepted, NotAChar, Refused}
 
--- "The ideographs excepted are those that `check_basic_text_char` lists", with the ohm, kelvin and angstrom signs: refused, though
--- `replace` has no row for them
-abbrev pub excepted : List Span
-excepted =
-    one 0x2126 ∷ one 0x212a ∷ one 0x212b ∷
+-- the signs for ohm, kelvin and angstrom: refused, and replaced with the option for units on alone
+abbrev pub signs : List Span
+signs = one 0x2126 ∷ one 0x212a ∷ one 0x212b ∷ []
+
+-- "The ideographs excepted are those that `check_basic_text_char` lists": refused, though nothing replaces them
+abbrev pub ideographs : List Span
+ideographs =
     0xf900 to 0xfa0d ∷ one 0xfa10 ∷ one 0xfa12 ∷ 0xfa15 to 0xfa1e ∷ one 0xfa20 ∷ one 0xfa22 ∷
     0xfa25 to 0xfa26 ∷ 0xfa2a to 0xfa6d ∷ 0xfa70 to 0xfad9 ∷ 0x2f800 to 0x2fa1d ∷ []
 
--- the Rust's arms in order, that of `Replacement` in two lists; each with its reason's number
+-- the Rust's arms in order, that of `Replacement` in three lists; each with its reason's number
 abbrev pub refusals : List (Row ℕ)
 refusals =
     -- ControlCode: `c.is_control()` but for newline, tab and ESC
@@ -37,7 +40,8 @@ refusals =
     (one 0x149 ∷ one 0x673 ∷ one 0xf77 ∷ one 0xf79 ∷ 0x17a3 to 0x17a4 ∷ 0x2329 to 0x232a ∷
     one 0x2df5 ∷ one 0x111c4 ∷ 0xfb00 to 0xfb06 ∷
     unassignedReplaced) 16
-    (each excepted 16
+    (each signs 16
+    (each ideographs 16
     (
     -- LanguageTag, Interlinear, Omit, Beyyal, DeprecatedFormatChar
     one 0xe0001 gives 7 ∷
@@ -54,7 +58,7 @@ refusals =
     (
     -- OutOfBand, UnneededBOM
     one 0xfffc gives 12 ∷
-    one 0xfeff gives 11 ∷ []))))
+    one 0xfeff gives 11 ∷ [])))))
 
 -- the reason's number, and 0 where c is accepted: "4 a character refused by `check_basic_text_char`". "`check_basic_text_char` accepts
 -- 1B." The table is its list, so "a check that gives every character reason 16" does not pass.
@@ -96,16 +100,20 @@ abbrev pub reasonNumbers : Checked → List ℕ
 reasonNumbers Ok = 0 ∷ []
 reasonNumbers (Err e) = errorNumbers e
 
--- the values that reason r carries for c: "reasons 2, 3, 13, 16 carry it, 16 also its one to three replacements." A character without
--- a row is its own:
--- "Reason 16 for 2126 names 2126 itself."
-abbrev pub carried : ℕ → ℕ → List ℕ
-carried r c =
-    cond (eqb r 16) (c ∷ listNumbers (threeAndCount (replaceOf c))) (cond (eqb r 2 || eqb r 3 || eqb r 13) (c ∷ []) [])
+-- the values that reason r carries for c, with the option on or off: "reasons 2, 3, 13, 16 carry it, 16 also its one to three
+-- replacements." A character without a row is its own: with it off "Reason 16 for 2126 names 2126 itself."; "with it on reason 16 for the
+-- three names these replacements"
+abbrev pub carried : Bool → ℕ → ℕ → List ℕ
+carried units r c =
+    cond (eqb r 16) (c ∷ listNumbers (threeAndCount (replaceOf units c))) (cond (eqb r 2 || eqb r 3 || eqb r 13) (c ∷ []) [])
 
 -- what the check says of c: the reason's number and its values
+abbrev pub checkBy : Bool → ℕ → List ℕ
+checkBy units c = reasonOf c ∷ carried units (reasonOf c) c
+
+-- and with the option off, as a write and the check of a run have it: "a write's 4 stays as it is"
 unfoldable pub checkNumbers : ℕ → List ℕ
-checkNumbers c = reasonOf c ∷ carried (reasonOf c) c
+checkNumbers c = checkBy false c
 
 -- the entry's answer: 0 for accepted, 1 for no character, 4 with the reason's number and values
 abbrev pub checkAnswerNumbers : Answer → List ℕ
@@ -113,9 +121,9 @@ checkAnswerNumbers Accepted = 0 ∷ []
 checkAnswerNumbers NotAChar = 1 ∷ []
 checkAnswerNumbers (Refused e) = 4 ∷ errorNumbers e
 
--- "Entries on one character give 1 .. the check then 4."
-abbrev pub checkAnswer : ℕ → List ℕ
-checkAnswer c = cond (isChar c) (cond (eqb (reasonOf c) 0) (0 ∷ []) (4 ∷ checkNumbers c)) (1 ∷ [])
+-- "Entries on one character give 1 .. the check then 4."; "The check's own entry takes it too"
+abbrev pub checkAnswer : Bool → ℕ → List ℕ
+checkAnswer units c = cond (isChar c) (cond (eqb (reasonOf c) 0) (0 ∷ []) (4 ∷ checkBy units c)) (1 ∷ [])
 
 -- ---- `Categorize`
 -- `new`: no reason is kept
@@ -132,9 +140,15 @@ abbrev pub categorizeOf : Categorize → ℕ → List ℕ
 categorizeOf r c = cond (eqb (reasonOf c) 0) (0 ∷ c ∷ reasonNumbers (r .error)) (4 ∷ 0x1a ∷ checkNumbers c)
 
 -- ---- a cleaned text
+-- what is excepted, with the option on and off: refused, though nothing replaces it
+-- "With it on, a cleaned text's only remaining exceptions are the CJK compatibility ideographs."
+abbrev pub excepted : Bool → List Span
+excepted true = ideographs
+excepted false = signs ++ ideographs
+
 -- what it may hold: x is accepted, or one of those excepted; and is no ESC
-abbrev pub clean : ℕ → Bool
-clean x = (eqb (reasonOf x) 0 || inSpans excepted x) && not (eqb x 0x1b)
+abbrev pub clean : Bool → ℕ → Bool
+clean units x = (eqb (reasonOf x) 0 || inSpans (excepted units) x) && not (eqb x 0x1b)
 
 -- every number of a list passes a test
 abbrev pub all : (ℕ → Bool) → List ℕ → Bool

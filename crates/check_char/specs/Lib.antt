@@ -3,4 +3,5 @@
 pub mod Check
 pub mod Numbers
 pub mod Unicode
+pub mod Excepted
 pub mod Runs

@@ -1,18 +1,19 @@
 // Which characters Basic Text refuses, and why. Ports `check_basic_text_char` of internals/src/check.rs and `Categorize` of
-// internals/src/categorize.rs. The crate is not called `check`: the toolchain has a library of that name.
+// internals/src/categorize.rs. Beyond them, by the option for units, the reason for the signs of ohm, kelvin and angstrom names their
+// letters. The crate is not called `check`: the toolchain has a library of that name.
 //     numbers.rt   a reason as plain numbers
 mod numbers;
 
 pub use numbers::Reason;
 pub use numbers::reason_of;
 use replace::Replaced;
-use replace::replace;
+use replace::replace_by;
 use unicode::BOM;
 use unicode::ORC;
 use unicode::SUB;
 use unicode::is_char;
 ghost use mathlib.Core.Path.{_≡_};
-ghost use Rattle.check_char.specs.Check.{reasonOf, threeAndCount, reasonNumbers, checkNumbers, checkAnswerNumbers, checkAnswer, unrefused, categorizedNumbers, categorizeOf};
+ghost use Rattle.check_char.specs.Check.{reasonOf, threeAndCount, reasonNumbers, checkBy, checkNumbers, checkAnswerNumbers, checkAnswer, unrefused, categorizedNumbers, categorizeOf};
 
 // The replacements that a reason names, as the Rust's `Box<[char]>`: how many, and three characters, 0 past that many.
 pub struct Replacements {
@@ -179,9 +180,9 @@ fn listed(r: Replaced) -> Replacements
     }
 }
 
-// Whether c is accepted, and why not. Inner: it does not ask whether c is a character.
-pub fn check_basic_text_char(c: u32) -> Checked
-    ensures { λ r. ⌜ reasonNumbers r ≡ checkNumbers c ⌝ }
+// Whether c is accepted, and why not, with the option for units on or off. Inner: it does not ask whether c is a character.
+fn check_by(units: bool, c: u32) -> Checked
+    ensures { λ r. ⌜ reasonNumbers r ≡ checkBy units c ⌝ }
 {
     let number = reason(c);
     match number {
@@ -199,10 +200,17 @@ pub fn check_basic_text_char(c: u32) -> Checked
         13 => Checked::Err(BasicTextError::Omit(c)),
         14 => Checked::Err(BasicTextError::Beyyal),
         _ => {
-            let yes = listed(replace(c));
+            let yes = listed(replace_by(units, c));
             Checked::Err(BasicTextError::Replacement { yes, no: c })
         }
     }
+}
+
+// The same with the option off, for a write and the check of a run. Inner, as `check_by`.
+pub fn check_basic_text_char(c: u32) -> Checked
+    ensures { λ r. ⌜ reasonNumbers r ≡ checkNumbers c ⌝ }
+{
+    check_by(false, c)
 }
 
 // Accepted, no character (1), or refused for a reason (4).
@@ -212,12 +220,12 @@ pub enum Answer {
     Refused(BasicTextError),
 }
 
-// Whether the character c is accepted. Total: refuses 1, then 4 with the reason.
-pub fn check(c: u32) -> Answer
-    ensures { λ r. ⌜ checkAnswerNumbers r ≡ checkAnswer c ⌝ }
+// Whether the character c is accepted, with the option on or off. Total: refuses 1, then 4 with the reason.
+pub fn check(units: bool, c: u32) -> Answer
+    ensures { λ r. ⌜ checkAnswerNumbers r ≡ checkAnswer units c ⌝ }
 {
     if is_char(c) {
-        let checked = check_basic_text_char(c);
+        let checked = check_by(units, c);
         return match checked {
             Checked::Ok => Answer::Accepted,
             Checked::Err(e) => Answer::Refused(e),

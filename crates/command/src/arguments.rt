@@ -27,6 +27,7 @@ pub struct Wish {
     pub lines: bool,
     pub nel: bool,
     pub lsps: bool,
+    pub units: bool,
     pub strict: bool,
     pub progress: bool,
     pub summary: bool,
@@ -46,6 +47,7 @@ fn none() -> Wish {
         lines: false,
         nel: false,
         lsps: false,
+        units: false,
         strict: false,
         progress: false,
         summary: false,
@@ -76,6 +78,8 @@ fn option(word: &[u8], i: usize, w: Wish) -> Wish {
         new.nel = true;
     } else if same(word, b"--lsps") {
         new.lsps = true;
+    } else if same(word, b"--units") {
+        new.units = true;
     } else if same(word, b"--strict") {
         new.strict = true;
     } else if same(word, b"--progress") {

@@ -104,6 +104,7 @@ fn options(w: Wish) -> Options {
     Options {
         nel_compatibility: w.nel,
         lsps_compatibility: w.lsps,
+        units_compatibility: w.units,
     }
 }
 

@@ -220,6 +220,10 @@ fn help_of_options(before: bool) -> bool {
     ok = line(ok, b"      --lsps         U+2028 and U+2029 end a line\n");
     ok = line(
         ok,
+        b"      --units        the signs for ohm, kelvin and angstrom, U+2126, U+212A and U+212B, become U+03A9, U+004B and U+00C5\n",
+    );
+    ok = line(
+        ok,
         b"      --page FILE    the property page, as hexadecimal numbers, in place of that of Unicode 15.0.0\n",
     );
     ok = line(

@@ -38,20 +38,21 @@ ends-after : (w : List ℕ) (b : Bool) → endsWell false w ≡ true → endsWel
 ends-after [] b h = never h
 ends-after (x ∷ w) b h = h
 
-piece-ends : (k : Kind) (v rest w : List ℕ) (b : Bool) → endsWell (not (not (isLine k))) w ≡ true →
-    endsWell (endsWell b (pieceImage k v rest)) w ≡ true
-piece-ends lineEnd v rest w b h = unfold pieceImage in h
-piece-ends pageRun v rest w b h = ends-after w _ h
-piece-ends escape v rest w b h = ends-after w _ h
-piece-ends other v rest w b h = ends-after w _ h
+piece-ends : (o : Options) (k : Kind) (v rest w : List ℕ) (b : Bool) → endsWell (not (not (isLine k))) w ≡ true →
+    endsWell (endsWell b (pieceImage o k v rest)) w ≡ true
+piece-ends o lineEnd v rest w b h = unfold pieceImage in h
+piece-ends o pageRun v rest w b h = ends-after w _ h
+piece-ends o escape v rest w b h = ends-after w _ h
+piece-ends o other v rest w b h = ends-after w _ h
 
 -- where no newline is owed the image ends with 0A, or is empty
-image-ends : (xs : List Piece) (owed b : Bool) → owedAfter owed xs ≡ false → (owed ≡ false → b ≡ true) → endsWell b (image xs) ≡ true
+image-ends : (o : Options) (xs : List Piece) (owed b : Bool) → owedAfter owed xs ≡ false → (owed ≡ false → b ≡ true) →
+    endsWell b (image o xs) ≡ true
 unfolding owedAfter image
-image-ends [] owed b h f = f h
-image-ends (x ∷ xs) owed b h f =
-    rw (ends-append (pieceImage (x .kind) (x .text) (join xs)) (image xs) b)
-    (piece-ends (x .kind) (x .text) (join xs) (image xs) b (image-ends xs (not (isLine (x .kind))) _ h (λ e. rw e)))
+image-ends o [] owed b h f = f h
+image-ends o (x ∷ xs) owed b h f =
+    rw (ends-append (pieceImage o (x .kind) (x .text) (join xs)) (image o xs) b)
+    (piece-ends o (x .kind) (x .text) (join xs) (image o xs) b (image-ends o xs (not (isLine (x .kind))) _ h (λ e. rw e)))
 
 -- 0A is an end, so no 34F follows it
 no-end-mark : (w : List ℕ) → endsWell true w ≡ true → endMark w ≡ []
@@ -60,20 +61,20 @@ no-end-mark [] h = refl
 no-end-mark (x ∷ []) h = rw (eqb-true x 0x0A h, end-newline)
 no-end-mark (x ∷ y ∷ w) h = no-end-mark (y ∷ w) h
 
-module _ (p : List ℕ) where
+module _ (p : List ℕ) (o : Options) where
   marked-ends : (w : List ℕ) → endsWell true w ≡ true → endsWell true (startMark p w ++ w) ≡ true
   unfolding startMark
   marked-ends [] h = refl
   marked-ends (x ∷ w) h = split (λ (l : List ℕ). endsWell true (l ++ (x ∷ w)) ≡ true) (basicTextStart p x) (λ e. h) (λ e. h)
 
-  ends-by : (xs : List Piece) (owed : Bool) → owedAfter false xs ≡ owed → endsWell true (cleaned p xs) ≡ true
+  ends-by : (xs : List Piece) (owed : Bool) → owedAfter false xs ≡ owed → endsWell true (cleaned p o xs) ≡ true
   unfolding cleaned
   ends-by xs true h = rw (← lastNewline-is xs, h) (simp ends-append refl)
   ends-by xs false h =
-      let a : endsWell true (image xs) ≡ true = image-ends xs false true h (λ e. refl) in
-      rw (← lastNewline-is xs, h, no-end-mark (image xs) a, append-nil (image xs)) (marked-ends (image xs) a)
+      let a : endsWell true (image o xs) ≡ true = image-ends o xs false true h (λ e. refl) in
+      rw (← lastNewline-is xs, h, no-end-mark (image o xs) a, append-nil (image o xs)) (marked-ends (image o xs) a)
 
-  pub cleaned-ends : (xs : List Piece) → endsWell true (cleaned p xs) ≡ true
+  pub cleaned-ends : (xs : List Piece) → endsWell true (cleaned p o xs) ≡ true
   cleaned-ends xs = ends-by xs (owedAfter false xs) refl
 
   -- ---- how it begins
@@ -89,9 +90,9 @@ module _ (p : List ℕ) where
         split (λ (l : List ℕ). startsWell p (l ++ (x ∷ (w ++ (endMark (x ∷ w) ++ u)))) ≡ true) (basicTextStart p x)
         (λ e. e) (λ e. start-joiner p good)
 
-    pub cleaned-starts : (xs : List Piece) → startsWell p (cleaned p xs) ≡ true
+    pub cleaned-starts : (xs : List Piece) → startsWell p (cleaned p o xs) ≡ true
     unfolding cleaned
-    cleaned-starts xs = marked-starts (image xs) (lastNewline xs) (rw (← lastNewline-is xs) (newline-starts (owedAfter false xs)))
+    cleaned-starts xs = marked-starts (image o xs) (lastNewline xs) (rw (← lastNewline-is xs) (newline-starts (owedAfter false xs)))
 
 -- ---- what it holds
 all-append : (f : ℕ → Bool) (v w : List ℕ) → all f v ≡ true → all f w ≡ true → all f (v ++ w) ≡ true
@@ -99,12 +100,12 @@ all-append f [] w h g = g
 all-append f (x ∷ v) w h g = let k = both-true (f x) (all f v) h in both (k .0) (all-append f v w (k .1) g)
 
 module _ (p : List ℕ) (o : Options) where
-  scans-clean : (r : TextInput) (ts : List (List ℕ)) → areChars (flatten ts) ≡ true → all clean (scansChars p o r ts) ≡ true
+  scans-clean : (r : TextInput) (ts : List (List ℕ)) → areChars (flatten ts) ≡ true → all (clean (o .«units_compatibility»)) (scansChars p o r ts) ≡ true
   unfolding scansChars flatten
   scans-clean r [] h = refl
   scans-clean r (t ∷ ts) h =
-      all-append clean (scanChars p o r t) (scansChars p o (scanNext p o r t) ts)
-      (holds (all clean (scanChars p o r t)) (scan-clean p o r t (chars-parts t (flatten ts) h .0)))
+      all-append (clean (o .«units_compatibility»)) (scanChars p o r t) (scansChars p o (scanNext p o r t) ts)
+      (holds (all (clean (o .«units_compatibility»)) (scanChars p o r t)) (scan-clean p o r t (chars-parts t (flatten ts) h .0)))
       (scans-clean (scanNext p o r t) ts (chars-parts t (flatten ts) h .1))
 
   scans-chars : (r : TextInput) (ts : List (List ℕ)) → areChars (flatten ts) ≡ true → areChars (scansChars p o r ts) ≡ true
@@ -119,10 +120,10 @@ module _ (p : List ℕ) (o : Options) where
     abbrev last : TextInput
     last = scansNext p o r ts
 
-    pub whole-clean : all clean (scansChars p o r ts ++ finishChars last true) ≡ true
+    pub whole-clean : all (clean (o .«units_compatibility»)) (scansChars p o r ts ++ finishChars last true) ≡ true
     whole-clean =
-        all-append clean (scansChars p o r ts) (finishChars last true) (scans-clean r ts h)
-        (holds (all clean (finishChars last true)) (finish-clean last true))
+        all-append (clean (o .«units_compatibility»)) (scansChars p o r ts) (finishChars last true) (scans-clean r ts h)
+        (holds (all (clean (o .«units_compatibility»)) (finishChars last true)) (finish-clean (o .«units_compatibility») last true))
 
     pub whole-chars : areChars (scansChars p o r ts ++ finishChars last true) ≡ true
     whole-chars = chars-append (scansChars p o r ts) (finishChars last true) (scans-chars r ts h) (finish-chars last true)

@@ -48,7 +48,7 @@ queue-computed : queueOf seen ≡ queue
 unfolding seen queueOf
 queue-computed = refl
 
-none-excepted : NoneExcepted (queueOf seen)
+none-excepted : NoneExcepted options (queueOf seen)
 none-excepted = rw queue-computed
 
 text-computed : textOf calls ≡ text
@@ -66,7 +66,7 @@ reads =
       );
     }
 
-image-computed : cleaned page pieces ≡ queue
+image-computed : cleaned page options pieces ≡ queue
 unfolding join image pieceImage startMark endMark lastNewline cleaned replaceOf basicTextStart basicTextEnd starter
     graphemeExtendNotCgj spacingMarkPlus nonstarter member
 image-computed = refl

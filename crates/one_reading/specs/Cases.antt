@@ -1,15 +1,15 @@
 -- "The first twelve are proved, with the page 0 1 0 377 (no nonstarters, 0..377 assigned); scans end as end of file." Document 01,
--- "Checked by hand": the cases as a table, and what the calls' definitions give for a row. Both options are off. proofs/Cases.antt
+-- "Checked by hand": the cases as a table, and what the calls' definitions give for a row. All options are off. proofs/Cases.antt
 -- proves that the two agree. Characters are hexadecimal.
 use Prim.Native.Nat.{ℕ}
-use mathlib.Core.Bool.{true, false}
+use mathlib.Core.Bool.{true}
 use mathlib.Core.List.{List, [], _∷_}
 use lib.ListN.{replicate}
 use Rattle.isolate_unassigned.specs.Isolate.{isolateAnswer, isolatePlaces}
 use Rattle.text_input.specs.declared.Options.{Options}
 use Rattle.text_input.specs.declared.TextInput.{TextInput}
 use Rattle.common.specs.Answers.{refusalIn, wroteIn}
-use Rattle.text_input.specs.Scan.{Outcome, fresh, scanOf, finishOf}
+use Rattle.text_input.specs.Scan.{Outcome, fresh, allOff, scanOf, finishOf}
 
 -- what is run: scans of these chunks and a finish as end of file, from a fresh record; or the isolation of a run
 pub data Trial : Type 0 where
@@ -27,7 +27,7 @@ abbrev pub page : List ℕ
 page = 0 ∷ 1 ∷ 0 ∷ 0x377 ∷ []
 
 abbrev pub options : Options
-options = record { «nel_compatibility» = false; «lsps_compatibility» = false }
+options = allOff
 
 -- so many places, each with a value that no call writes
 abbrev pub lent : ℕ → List ℕ

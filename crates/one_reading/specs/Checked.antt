@@ -27,7 +27,7 @@ QueueGetsYes =
     (page : List ℕ) → accepted page ≡ true → (options : Options) →
     (calls : List Call) → FinishedOnce page options (acceptedCalls calls) →
     (seen : List Outcome) → Seen fresh calls seen →
-    NoneExcepted (queueOf seen) → checkRunOf page (queueOf seen) ≡ yesNumbers
+    NoneExcepted options (queueOf seen) → checkRunOf page (queueOf seen) ≡ yesNumbers
 
 -- Beyond A.1: a run that gets yes passes a fresh plain writer in one write, which then closes. Not the other way: a write isolates, and so
 -- takes runs that begin with no start

@@ -1,7 +1,7 @@
 -- DEMAND 3: what a list of calls that is finished once, as end of file, comes to. Document 01, "Agreed between us", with "Pieces of a
 -- text". Then what the words of the statement come to; last, beyond it, that its queue passes the writers of the other modes too.
 use Prim.Native.Nat.{ℕ}
-use mathlib.Core.Bool.{Bool, true, cond, not}
+use mathlib.Core.Bool.{Bool, true, cond, not, _||_}
 use mathlib.Core.List.{List, [], _∷_, flatten}
 use mathlib.Core.Path.{_≡_}
 use lib.Dec.{eqb}
@@ -10,7 +10,8 @@ use Rattle.common.specs.Answers.{refusalIn}
 use Rattle.common.specs.Only.{ExactlyOne}
 use Rattle.page.specs.Page.{accepted}
 use Rattle.replace.specs.Table.{inSpans}
-use Rattle.check_char.specs.Check.{excepted, clean, all}
+use Rattle.check_char.specs.Check.{reasonOf, excepted, clean, all}
+use Rattle.check_char.specs.Excepted.{exceptedByUnicode}
 use Rattle.isolate_unassigned.specs.Meaning.{isolated}
 use Rattle.text_input.specs.declared.Options.{Options}
 use Rattle.text_input.specs.declared.TextInput.{TextInput}
@@ -21,9 +22,10 @@ use Rattle.text_output.specs.declared.Mode.the-variants.{Plain, Crlf, Color}
 use Rattle.text_output.specs.Passing.{PassesIn, crlfOf}
 use Rattle.one_reading.specs.Calls.{Taking, scan, commit, Call, chunkBy, finish, callOf, Seen, queueOf, recordAfter, acceptedCalls, acceptedChunks, textOf, FinishedOnce}
 
--- a queue holds none of 2126, 212A, 212B and the ideographs: "The ideographs excepted are those that `check_basic_text_char` lists."
-abbrev pub NoneExcepted : List ℕ → Type 0
-NoneExcepted queue = all (λ (c : ℕ). not (inSpans excepted c)) queue ≡ true
+-- a queue holds none of the ideographs and, with the option for units off, none of 2126, 212A and 212B: "The ideographs excepted are
+-- those that `check_basic_text_char` lists."
+abbrev pub NoneExcepted : Options → List ℕ → Type 0
+NoneExcepted options queue = all (λ (c : ℕ). not (inSpans (excepted (options .«units_compatibility»)) c)) queue ≡ true
 
 -- what is promised of a page, options, calls, the queue and the record after the calls
 pub record Promise (page : List ℕ) (options : Options) (calls : List Call) (queue : List ℕ) (last : TextInput) : Type 0 where
@@ -31,15 +33,15 @@ pub record Promise (page : List ℕ) (options : Options) (calls : List Call) (qu
   -- exactly one
   pub reading : (text : List ℕ) → ExactlyOne (List Piece) (λ (xs : List Piece). Reading options text xs)
   -- "Demand 3 compares the queue with the image after these additions.": the queue is the cleaned text of the reading
-  pub image : (xs : List Piece) → Reading options (textOf calls) xs → queue ≡ cleaned page xs
+  pub image : (xs : List Piece) → Reading options (textOf calls) xs → queue ≡ cleaned page options xs
   -- "The record holds a 32-bit count of characters taken, dropped ones included.": those of the accepted chunks
   -- so "a count that is made up" does not pass
   pub count : last .count ≡ length (flatten (acceptedChunks calls))
   -- the queue holds no ESC, and nothing that the check refuses but the excepted ones
-  pub holds : all clean queue ≡ true
+  pub holds : all (clean (options .«units_compatibility»)) queue ≡ true
   -- holding none of these, it passes a plain writer: "The write and the close are on a writer record of their own, the close on the
   -- one that the write returned." It hands out "the queue isolated as one run with the page."
-  pub passes : NoneExcepted queue → PassesIn Plain page queue (isolated page queue)
+  pub passes : NoneExcepted options queue → PassesIn Plain page queue (isolated page queue)
 
 -- for every accepted page, options, list of calls and what a caller sees of it, from a fresh record: "A fresh record is one as first
 -- made, with no call on it yet."
@@ -51,6 +53,19 @@ Demand3 =
     (calls : List Call) → FinishedOnce page options (acceptedCalls calls) →
     (seen : List Outcome) → Seen fresh calls seen →
     Promise page options calls (queueOf seen) (recordAfter fresh seen)
+
+-- what its exceptions come to, by Unicode's data: those are left and no others, and a queue with none of them holds none
+-- "With it on, a cleaned text's only remaining exceptions are the CJK compatibility ideographs."
+pub record Exceptions (options : Options) (queue : List ℕ) : Type 0 where
+  pub only : all (λ (c : ℕ). eqb (reasonOf c) 0 || exceptedByUnicode (options .«units_compatibility») c) queue ≡ true
+  pub none : all (λ (c : ℕ). not (exceptedByUnicode (options .«units_compatibility») c)) queue ≡ true → NoneExcepted options queue
+
+abbrev pub ExceptedByUnicode : Type 0
+ExceptedByUnicode =
+    (page : List ℕ) → accepted page ≡ true → (options : Options) →
+    (calls : List Call) → FinishedOnce page options (acceptedCalls calls) →
+    (seen : List Outcome) → Seen fresh calls seen →
+    Exceptions options (queueOf seen)
 
 -- ---- what the statement's words come to, on every list of calls
 -- the calls that answered 0
@@ -88,4 +103,4 @@ PassesOthers =
     (page : List ℕ) → accepted page ≡ true → (options : Options) →
     (calls : List Call) → FinishedOnce page options (acceptedCalls calls) →
     (seen : List Outcome) → Seen fresh calls seen →
-    NoneExcepted (queueOf seen) → Others page (queueOf seen)
+    NoneExcepted options (queueOf seen) → Others page (queueOf seen)

@@ -28,7 +28,7 @@ calls =
     -- two characters need seven places: refused by 8
     chunkBy scan page options (0xFEFF ∷ 0x0D ∷ []) (lent 1)
     -- a page that is a number short, and other options: refused by 2
-    ∷ chunkBy scan (0 ∷ 1 ∷ 0 ∷ []) (record { «nel_compatibility» = true; «lsps_compatibility» = true }) (0xFEFF ∷ 0x0D ∷ []) (lent 7)
+    ∷ chunkBy scan (0 ∷ 1 ∷ 0 ∷ []) (record { «nel_compatibility» = true; «lsps_compatibility» = true; «units_compatibility» = true }) (0xFEFF ∷ 0x0D ∷ []) (lent 7)
     -- the first accepted call: FEFF is dropped, and 0D waits
     ∷ chunkBy scan page options (0xFEFF ∷ 0x0D ∷ []) (lent 7)
     -- D800 is no character: refused by 1
@@ -87,13 +87,13 @@ pub record Worked : Type 0 where
   pub good : accepted page ≡ true
   pub once : FinishedOnce page options (acceptedCalls calls)
   pub saw : Seen fresh calls seen
-  pub none : NoneExcepted (queueOf seen)
+  pub none : NoneExcepted options (queueOf seen)
   -- what it then says
   pub promise : Promise page options calls (queueOf seen) (recordAfter fresh seen)
   -- and the same, computed
   pub text-is : textOf calls ≡ text
   pub reading : Reading options text pieces
-  pub image : cleaned page pieces ≡ queue
+  pub image : cleaned page options pieces ≡ queue
   pub queue-is : queueOf seen ≡ queue
   pub count : recordAfter fresh seen .count ≡ 4
   -- the writer hands the queue out as it is, since all of it is assigned, and closes

@@ -17,6 +17,7 @@ by-flag true r = refl
 by-flag false r = refl
 
 -- "Entries on one character give 1 (the start class 2, then 1)": "1 a value in D800..DFFF or above 10FFFF."
-pub replacement-order : (c : ℕ) → refusalIn (replacementOf c) ≡ firstOf (1 when ((leb 0xd800 c && leb c 0xdfff) || ltb 0x10ffff c) ∷ [])
+pub replacement-order : (units : Bool) (c : ℕ) →
+    refusalIn (replacementOf units c) ≡ firstOf (1 when ((leb 0xd800 c && leb c 0xdfff) || ltb 0x10ffff c) ∷ [])
 unfolding isChar
-replacement-order c = by-flag ((leb 0xd800 c && leb c 0xdfff) || ltb 0x10ffff c) (replaceOf c)
+replacement-order units c = by-flag ((leb 0xd800 c && leb c 0xdfff) || ltb 0x10ffff c) (replaceOf units c)

@@ -1,4 +1,4 @@
--- What each character is replaced by: `replace` of internals/src/replace.rs, row by row in its order.
+-- What each character is replaced by: `replace` of internals/src/replace.rs, row by row in its order, and the rows that an option adds.
 use Prim.Native.Nat.{ℕ}
 use mathlib.Core.List.{List, [], _∷_, _++_}
 use Rattle.replace.specs.declared.Replaced.{Replaced}
@@ -6,7 +6,7 @@ use Rattle.replace.specs.declared.Replaced.the-variants.{One, Two, Three
 use Rattle.replace.specs.declared.Answer.{Answer}
 use Rattle.replace.specs.declared.Answer.the-variants.{Chars, Refused}
 use Rattle.unicode.specs.Chars.{isChar}
-use mathlib.Core.Bool.{cond}
+use mathlib.Core.Bool.{Bool, true, false, cond}
 use Rattle.replace.specs.Table.{Span, _to_, one, Row, _gives_, lookup, each}
 
 -- the characters of an answer, in order
@@ -83,9 +83,22 @@ replacements =
     one 0x85 gives One 0x20 ∷
     each removed (One 0xfffd) []
 
--- what replaces c: its row's answer, and "anything else is itself"
-unfoldable pub replaceOf : ℕ → Replaced
-replaceOf c = lookup replacements (One c) c
+-- the rows of the option for the signs of ohm, kelvin and angstrom: "replacement turns U+2126 into U+03A9, U+212A into U+004B and U+212B
+-- into U+00C5, as Unicode decomposes them"
+abbrev pub unitSigns : List (Row Replaced)
+unitSigns =
+    one 0x2126 gives One 0x3a9 ∷
+    one 0x212a gives One 0x4b ∷
+    one 0x212b gives One 0xc5 ∷ []
+
+-- the rows with the option on, and off
+abbrev pub rowsBy : Bool → List (Row Replaced)
+rowsBy true = unitSigns ++ replacements
+rowsBy false = replacements
+
+-- what replaces c, with the option on or off: its row's answer, and "anything else is itself"
+unfoldable pub replaceOf : Bool → ℕ → Replaced
+replaceOf units c = lookup (rowsBy units) (One c) c
 
 -- an answer of the entry by document 01's numbers: 0 and the one to three characters, or the refusal's number
 abbrev pub replacementNumbers : Answer → List ℕ
@@ -93,5 +106,5 @@ replacementNumbers (Chars r) = 0 ∷ chars r
 replacementNumbers (Refused n) = n ∷ []
 
 -- "Entries on one character give 1"
-abbrev pub replacementOf : ℕ → List ℕ
-replacementOf c = cond (isChar c) (0 ∷ chars (replaceOf c)) (1 ∷ [])
+abbrev pub replacementOf : Bool → ℕ → List ℕ
+replacementOf units c = cond (isChar c) (0 ∷ chars (replaceOf units c)) (1 ∷ [])

@@ -1,5 +1,6 @@
 // What a character is replaced by on input, so that text that holds it can still be read. Ports `replace` of
-// internals/src/replace.rs, arm by arm; what the Rust pushes to a queue is the answer here.
+// internals/src/replace.rs, arm by arm; what the Rust pushes to a queue is the answer here. Beyond it, by the option for units, the
+// signs of ohm, kelvin and angstrom are replaced by their letters.
 use common::NOT_A_CHAR;
 use unicode::BOM;
 use unicode::FF;
@@ -11,6 +12,7 @@ use unicode::REPL;
 use unicode::WJ;
 use unicode::is_char;
 ghost use mathlib.Core.Path.{_≡_};
+ghost use mathlib.Core.Bool.{false};
 ghost use Rattle.replace.specs.Replace.{replaceOf, replacementNumbers, replacementOf};
 
 // One to three characters.
@@ -20,10 +22,11 @@ pub enum Replaced {
     Three(u32, u32, u32),
 }
 
-// What replaces c; any other number is itself. Inner: it does not ask whether c is a character. "'Replacement is one decision over all
-// characters': A match on the character with single values and ranges, arms for ligatures, controls and noncharacters."
+// What replaces c with the option for units off; any other number is itself. Inner: it does not ask whether c is a character.
+// "'Replacement is one decision over all characters': A match on the character with single values and ranges, arms for ligatures,
+// controls and noncharacters."
 pub fn replace(c: u32) -> Replaced
-    ensures { λ r. ⌜ r ≡ replaceOf c ⌝ }
+    ensures { λ r. ⌜ r ≡ replaceOf false c ⌝ }
 {
     match c {
         BOM => Replaced::One(WJ),
@@ -153,18 +156,33 @@ pub fn replace(c: u32) -> Replaced
     }
 }
 
+// What replaces c with the option for units on or off. Inner, as `replace`.
+pub fn replace_by(units: bool, c: u32) -> Replaced
+    ensures { λ r. ⌜ r ≡ replaceOf units c ⌝ }
+{
+    if units {
+        match c {
+            0x2126 => return Replaced::One(0x3a9),
+            0x212a => return Replaced::One(0x4b),
+            0x212b => return Replaced::One(0xc5),
+            _ => {}
+        }
+    }
+    replace(c)
+}
+
 // What replaces a character, or the number of the refusal.
 pub enum Answer {
     Chars(Replaced),
     Refused(u32),
 }
 
-// What replaces the character c. Total: a number that is no character is refused by 1.
-pub fn replacement(c: u32) -> Answer
-    ensures { λ r. ⌜ replacementNumbers r ≡ replacementOf c ⌝ }
+// What replaces the character c, with the option on or off. Total: a number that is no character is refused by 1.
+pub fn replacement(units: bool, c: u32) -> Answer
+    ensures { λ r. ⌜ replacementNumbers r ≡ replacementOf units c ⌝ }
 {
     if is_char(c) {
-        return Answer::Chars(replace(c));
+        return Answer::Chars(replace_by(units, c));
     }
     Answer::Refused(NOT_A_CHAR)
 }

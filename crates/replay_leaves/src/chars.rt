@@ -15,9 +15,9 @@ fn replaced_by(out: &mut [u8], at: usize, n: usize, chars: [u32; 3]) -> usize {
     answer::byte(out, end, b'\n')
 }
 
-// `L replace c`
-pub fn replacement(c: u32, out: &mut [u8], at: usize) -> usize {
-    let found = replace::replacement(c);
+// `L replace c`, and with the option `L replace c 1`
+pub fn replacement(units: bool, c: u32, out: &mut [u8], at: usize) -> usize {
+    let found = replace::replacement(units, c);
     match found {
         replace::Answer::Refused(n) => answer::no(out, at, n),
         replace::Answer::Chars(r) => match r {
@@ -35,9 +35,9 @@ fn refused(e: BasicTextError, out: &mut [u8], at: usize) -> usize {
     answer::byte(out, end, b'\n')
 }
 
-// `L check c`
-pub fn check(c: u32, out: &mut [u8], at: usize) -> usize {
-    let found = check_char::check(c);
+// `L check c`, and with the option `L check c 1`
+pub fn check(units: bool, c: u32, out: &mut [u8], at: usize) -> usize {
+    let found = check_char::check(units, c);
     match found {
         check_char::Answer::Accepted => answer::text(out, at, b"ok\n"),
         check_char::Answer::NotAChar => answer::no(out, at, NOT_A_CHAR),

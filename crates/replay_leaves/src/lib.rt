@@ -16,19 +16,35 @@ use replay_words::answer;
 use replay_words::answer::Why;
 use replay_words::words;
 use replay_words::words::Single;
+use replay_words::words::Switched;
 pub use runs::outcome;
 use utf16::ByteOrder;
 
-// An operation on the character given, by its number.
-fn on_char(number: usize, given: Single, page: &[u32], out: &mut [u8], at: usize) -> usize {
+// Replacement or check of the character given, with the option for units on or off.
+fn by_option(is_check: bool, given: Switched, out: &mut [u8], at: usize) -> usize {
+    match given {
+        Switched::Bad(why) => answer::refuse(out, at, why),
+        Switched::Is(c, units) => {
+            if is_check {
+                chars::check(units, c, out, at)
+            } else {
+                chars::replacement(units, c, out, at)
+            }
+        }
+    }
+}
+
+// The start or the end class of the character given.
+fn class(is_end: bool, given: Single, page: &[u32], out: &mut [u8], at: usize) -> usize {
     match given {
         Single::Bad(why) => answer::refuse(out, at, why),
-        Single::Is(c) => match number {
-            0 => chars::replacement(c, out, at),
-            1 => chars::check(c, out, at),
-            2 => chars::class(text_utils::start_class(page, c), out, at),
-            _ => chars::class(text_utils::end_class(c), out, at),
-        },
+        Single::Is(c) => {
+            if is_end {
+                chars::class(text_utils::end_class(c), out, at)
+            } else {
+                chars::class(text_utils::start_class(page, c), out, at)
+            }
+        }
     }
 }
 
@@ -41,7 +57,10 @@ pub fn operate(line: &[u8], page: &[u32], out: &mut [u8], at: usize) -> usize {
     let number = found.number;
     let place = found.place;
     match number {
-        0..=3 => on_char(number, words::one_number(line, place), page, out, at),
+        0 => by_option(false, words::switched_number(line, place), out, at),
+        1 => by_option(true, words::switched_number(line, place), out, at),
+        2 => class(false, words::one_number(line, place), page, out, at),
+        3 => class(true, words::one_number(line, place), page, out, at),
         4 => runs::utf8(line, place, out, at),
         5 => runs::isolate(line, place, page, out, at),
         6 => checks::check(line, place, page, out, at),

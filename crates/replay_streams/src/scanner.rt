@@ -70,8 +70,9 @@ fn count(given: Single, scanner: TextInput, out: &mut [u8], at: usize) -> Answer
 // The options by their number.
 fn options_of(number: u32) -> Options {
     Options {
-        nel_compatibility: (number == 1) | (number == 3),
-        lsps_compatibility: 2 <= number,
+        nel_compatibility: number % 2 == 1,
+        lsps_compatibility: number / 2 % 2 == 1,
+        units_compatibility: number / 4 % 2 == 1,
     }
 }
 
@@ -110,7 +111,7 @@ fn take_given(
         return refuse(scanner, out, at, Why::Number);
     }
     let options = given[0];
-    if options > 3 {
+    if options > 7 {
         return refuse(scanner, out, at, Why::Options);
     }
     let room = words::size(given[1]);
@@ -156,7 +157,7 @@ fn ask_given(
         return refuse(scanner, out, at, Why::Number);
     }
     let options = given[0];
-    if options > 3 {
+    if options > 7 {
         return refuse(scanner, out, at, Why::Options);
     }
     let price = ask(scanner, page, options_of(options), &given[1..]);

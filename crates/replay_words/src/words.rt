@@ -122,6 +122,30 @@ pub fn one_number(line: &[u8], place: usize) -> Single {
     Single::Bad(Why::Number)
 }
 
+// A number and whether an option is on, or why neither stands there.
+pub enum Switched {
+    Is(u32, bool),
+    Bad(Why),
+}
+
+// The number from a place to the line's end, or to a last word 1, by which the option is on.
+pub fn switched_number(line: &[u8], place: usize) -> Switched {
+    let Value::Is(value, end) = next(line, place) else {
+        return Switched::Bad(Why::Number);
+    };
+    if end == line.len() {
+        return Switched::Is(value, false);
+    }
+    if end < line.len() {
+        if line.len() - end == 2 {
+            if line[end + 1] == b'1' {
+                return Switched::Is(value, true);
+            }
+        }
+    }
+    Switched::Bad(Why::Word)
+}
+
 // How many are stored, or why not all can be.
 pub enum Stored {
     All(usize),

@@ -18,7 +18,7 @@ use Rattle.ranges.specs.Inner.{inRange}
 use Rattle.ranges.proofs.Found.{in-range}
 use Rattle.replace.specs.declared.Replaced.the-variants.{One}
 use Rattle.replace.specs.Table.{Span, _to_, Row, _gives_, has, inSpans, lookup}
-use Rattle.replace.specs.Replace.{replacements, replaceOf}
+use Rattle.replace.specs.Replace.{rowsBy, replaceOf}
 use Rattle.check_char.specs.Check.{refusals, reasonOf}
 use Rattle.stretch.specs.Stretch.{inGap, inSought}
 use Rattle.stretch.specs.Plain.{special, Plain, Gap, asciiOr}
@@ -38,7 +38,7 @@ module _ (r : Range) where
   spansApart (s ∷ ss) = apart s && spansApart ss
 
   abbrev pub clear : Bool
-  clear = rowsApart replacements && (rowsApart refusals && spansApart special)
+  clear = rowsApart (rowsBy true) && (rowsApart (rowsBy false) && (rowsApart refusals && spansApart special))
 
 -- ---- what it says of a character
 module _ (r : Range) (c : ℕ) (h : inGap r c ≡ true) where
@@ -78,15 +78,21 @@ module _ (r : Range) (c : ℕ) (h : inGap r c ≡ true) where
   in-none [] t = refl
   in-none (s ∷ ss) t = let x = both-true _ _ t in rw (has-none s (x .0)) (in-none ss (x .1))
 
+  own : rowsApart r (rowsBy true) ≡ true → rowsApart r (rowsBy false) ≡ true → (units : Bool) → replaceOf units c ≡ One c
+  unfolding replaceOf
+  own t u true = finds-none (One c) (rowsBy true) t
+  own t u false = finds-none (One c) (rowsBy false) u
+
 pub gap-clear : (r : Range) → clear r ≡ true → Gap r
-unfolding replaceOf reasonOf
+unfolding reasonOf
 gap-clear r t c h =
     let x = both-true _ _ t in
     let y = both-true _ _ (x .1) in
+    let z = both-true _ _ (y .1) in
     record {
-      same = finds-none r c h (One c) replacements (x .0);
-      accepted = finds-none r c h 0 refusals (y .0);
-      other = in-none r c h special (y .1);
+      same = own r c h (x .0) (y .0);
+      accepted = finds-none r c h 0 refusals (z .0);
+      other = in-none r c h special (z .1);
     }
 
 -- a newline, or plain: what comes out of the ground state as it goes in

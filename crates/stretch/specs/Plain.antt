@@ -1,7 +1,7 @@
 -- Plain characters: most of any text. The scanner's ground state appends them as they come, and the check accepts them.
 use Prim.Native.Nat.{ℕ}
 use mathlib.Core.Path.{_≡_}
-use mathlib.Core.Bool.{true, false}
+use mathlib.Core.Bool.{Bool, true, false}
 use mathlib.Core.List.{List, [], _∷_}
 use Rattle.ranges.specs.declared.Range.{Range}
 use Rattle.replace.specs.declared.Replaced.the-variants.{One}
@@ -16,9 +16,9 @@ use Rattle.stretch.specs.Stretch.{inGap}
 abbrev pub special : List Span
 special = one 0xa ∷ 0xc to 0xd ∷ one 0x1b ∷ one 0x85 ∷ 0x2028 to 0x2029 ∷ []
 
--- its own replacement, accepted by the check, and no line end, page character or ESC
+-- its own replacement with the option on and off, accepted by the check, and no line end, page character or ESC
 pub record Plain (c : ℕ) : Type 0 where
-  pub same : replaceOf c ≡ One c
+  pub same : (units : Bool) → replaceOf units c ≡ One c
   pub accepted : reasonOf c ≡ 0
   pub other : inSpans special c ≡ false
 

@@ -53,7 +53,7 @@ pub record Row : Type 0 where
   pub expected : List Told
 
 abbrev with : Bool → Bool → Options
-with nel lsps = record { «nel_compatibility» = nel; «lsps_compatibility» = lsps }
+with nel lsps = record { «nel_compatibility» = nel; «lsps_compatibility» = lsps; «units_compatibility» = false }
 
 -- all bytes are one text
 abbrev one : List Act → List Told → Row
@@ -68,6 +68,15 @@ nel acts expected = record { options = with true false; lines = false; acts = ac
 
 abbrev lsps : List Act → List Told → Row
 lsps acts expected = record { options = with false true; lines = false; acts = acts; expected = expected }
+
+abbrev units : List Act → List Told → Row
+units acts expected =
+    record {
+      options = record { «nel_compatibility» = false; «lsps_compatibility» = false; «units_compatibility» = true };
+      lines = false;
+      acts = acts;
+      expected = expected;
+    }
 
 -- a finish that adds the last 0A, and one that adds nothing
 abbrev ended : Told
@@ -159,6 +168,11 @@ table =
     ∷ nel (clean (0x1B ∷ 0x5D ∷ 0xC2 ∷ 0x85 ∷ 0x07 ∷ []) ∷ finish true ∷ []) (told [] 4 0 4 1 ∷ ended ∷ [])
     ∷ nel (clean (0x1B ∷ 0x5D ∷ 0xE2 ∷ 0x80 ∷ 0xA8 ∷ 0x07 ∷ []) ∷ finish true ∷ []) (told [] 4 0 4 0 ∷ ended ∷ [])
     ∷ lsps (clean (0x1B ∷ 0x5D ∷ 0xE2 ∷ 0x80 ∷ 0xA8 ∷ 0xE2 ∷ 0x80 ∷ 0xA9 ∷ 0x07 ∷ []) ∷ finish true ∷ []) (told [] 5 0 5 2 ∷ ended ∷ [])
+    -- 2126, 212A and 212B are replaced by their option, also where a chunk ends inside one
+    ∷ one (clean (0xE2 ∷ 0x84 ∷ 0xA6 ∷ 0xE2 ∷ 0x84 ∷ 0xAA ∷ 0xE2 ∷ 0x84 ∷ 0xAB ∷ []) ∷ finish true ∷ [])
+    (told (0xE2 ∷ 0x84 ∷ 0xA6 ∷ 0xE2 ∷ 0x84 ∷ 0xAA ∷ 0xE2 ∷ 0x84 ∷ 0xAB ∷ []) 3 0 0 0 ∷ ended ∷ [])
+    ∷ units (clean (0xE2 ∷ 0x84 ∷ 0xA6 ∷ 0xE2 ∷ 0x84 ∷ []) ∷ clean (0xAA ∷ 0xE2 ∷ 0x84 ∷ 0xAB ∷ []) ∷ finish true ∷ [])
+    (told (0xCE ∷ 0xA9 ∷ []) 1 0 0 0 ∷ told (0x4B ∷ 0xC3 ∷ 0x85 ∷ []) 2 0 0 0 ∷ ended ∷ [])
     -- 34F before a text and after it, which with lines is each line
     ∷ one (clean (0xE2 ∷ 0x80 ∷ 0x8D ∷ []) ∷ finish true ∷ [])
     (told (0xCD ∷ 0x8F ∷ 0xE2 ∷ 0x80 ∷ 0x8D ∷ []) 1 0 0 0 ∷ told (0xCD ∷ 0x8F ∷ 0x0A ∷ []) 0 0 0 0 ∷ [])

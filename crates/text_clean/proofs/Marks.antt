@@ -71,7 +71,7 @@ module _ (o : Options) where
   abbrev pub nextState : State → ℕ → State
   nextState s c = leftState c (leaveOf s c)
 
-  met-state : (p : List ℕ) (r : TextInput) (c : ℕ) (lead : Lead) (e : Bool) (m : Met) → metOf p r c lead e m .next .state ≡ metState m
+  met-state : (p : List ℕ) (r : TextInput) (c : ℕ) (lead : Lead) (e : Bool) (m : Met) → metOf p o r c lead e m .next .state ≡ metState m
   met-state p r c lead e Line = refl
   met-state p r c lead e (Opens s) = refl
   met-state p r c lead e Other = refl

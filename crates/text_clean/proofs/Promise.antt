@@ -50,11 +50,11 @@ module _ (page : List ℕ) (o : Options) (lines : Bool) (calls : List Call) (onc
     image-is = rw (whole .output) (images page good o lines (bytesOf calls))
 
     whole-is : lines ≡ false → (cs : List ℕ) (n : ℕ) → Lossy (bytesOf calls) cs n → (xs : List Piece) →
-        Reading o (withoutBom cs) xs → outputOf seen ≡ encodeAll (cleaned page xs)
+        Reading o (withoutBom cs) xs → outputOf seen ≡ encodeAll (cleaned page o xs)
     whole-is h cs n d xs read =
         texts-only (subst (λ (b : Bool). CleanedTexts page o (textsOf b (bytesOf calls)) (outputOf seen)) h image-is)
         (more (text d read) none)
-        ∙ append-nil (encodeAll (cleaned page xs))
+        ∙ append-nil (encodeAll (cleaned page o xs))
 
     counts-are : (cs : List ℕ) (n : ℕ) → Lossy (bytesOf calls) cs n →
         (totalsOf seen .read ≡ length cs) × (totalsOf seen .replaced ≡ n)

@@ -135,7 +135,7 @@ module _ (p : List ℕ) (o : Options) where
       ap₂ (λ (l : List ℕ) (r : TextInput). l ++ finishChars r true) (chunks-first p o fresh refl cs []) (first-ends p o fresh refl cs [])
       ∙ ap (λ (l : List ℕ). outs p o fresh l ++ finishChars (ends p o fresh l) true) n
 
-  pub text-cleaned : accepted p ≡ true → (cs : List ℕ) (xs : List Piece) → Reading o (withoutBom cs) xs → textOut cs ≡ cleaned p xs
+  pub text-cleaned : accepted p ≡ true → (cs : List ℕ) (xs : List Piece) → Reading o (withoutBom cs) xs → textOut cs ≡ cleaned p o xs
   text-cleaned good cs xs read =
       let n : flatten (withoutBomFirst (cs ∷ [])) ≡ withoutBom cs = unfold flatten in append-nil (withoutBom cs) in
       text-run cs ∙ sym (scans-run cs) ∙ whole p good o (cs ∷ []) xs (rw n read)
@@ -164,4 +164,4 @@ module _ (p : List ℕ) (o : Options) where
 pub text-only : {p : List ℕ} {o : Options} {bs out also : List ℕ} → CleanedText p o bs out → CleanedText p o bs also → out ≡ also
 text-only {p} {o} (text {xs = xs} d r) (text {xs = ys} e s) =
     let k = only d e .0 in
-    ap (λ (zs : List Piece). encodeAll (cleaned p zs)) (unique o _ xs ys r (rw (← k) at s))
+    ap (λ (zs : List Piece). encodeAll (cleaned p o zs)) (unique o _ xs ys r (rw (← k) at s))

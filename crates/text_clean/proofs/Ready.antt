@@ -104,7 +104,7 @@ module _ (p : List ℕ) (o : Options) (lines : Bool) where
       scanStepOf p o (begun (t .input)) c ≡ record { lead = Nothing; image = Chars (One c); next = passedText t c .input }
   unfolding scanStepOf
   plain-step t c r k =
-      simp (leave-ground (t .input .state) c (r .ground), meet-other c (k .other) o, k .same, no-guard p (t .input .«expect_starter») (t .input .«at_start») c (r .start))
+      simp (leave-ground (t .input .state) c (r .ground), meet-other c (k .other) o, k .same (o .«units_compatibility»), no-guard p (t .input .«expect_starter») (t .input .«at_start») c (r .start))
 
   plain-take : (t : Text) (c : ℕ) → Ready t c → Plain c → takeOf p o lines t c ≡ plainly t (c ∷ []) c
   unfolding takeOf

@@ -26,7 +26,7 @@ use Rattle.unicode.proofs.Texts.{encode-append, chars-append}
 use Rattle.replace.specs.declared.Replaced.{Replaced}
 use Rattle.replace.specs.declared.Replaced.the-variants.{One}
 use Rattle.replace.specs.Table.{_to_, Row, _gives_, has, lookup}
-use Rattle.replace.specs.Replace.{chars, replaceOf, replacements}
+use Rattle.replace.specs.Replace.{chars, rowsBy, replaceOf}
 use Rattle.text_utils.specs.Classes.{basicTextStart, basicTextEnd}
 use Rattle.text_utils.proofs.Classes.{end-newline, end-space}
 use Rattle.utf8_lossy.specs.Machine.{outsOf}
@@ -49,7 +49,7 @@ use Rattle.text_input.specs.declared.step.Step.{Step}
 use Rattle.text_input_parts.specs.Sets.{parameter, final, stringEnd, upTo7F, newlineChar}
 use Rattle.text_input_parts.specs.Appended.{leadChars, imageChars, firstChar, lastOf, endMarkOf, newlineOf, guardOf}
 use Rattle.text_input.specs.Sets.{optionalLine}
-use Rattle.text_input.specs.Step.{outChars, madeOf, metOf, groundOf, leftOf, leaveOf, meetOf, scanStepOf}
+use Rattle.text_input.specs.Step.{outChars, madeOf, replacedBy, metOf, groundOf, leftOf, leaveOf, meetOf, scanStepOf}
 use Rattle.text_input.specs.Scan.{finishChars, afterLine}
 use Rattle.text_input.specs.Scan as scanner
 use Rattle.text_input.proofs.Room.{Given, given-pending}
@@ -157,9 +157,10 @@ rows-fit : List (Row Replaced) → Bool
 rows-fit [] = true
 rows-fit (a to b gives v ∷ rs) = row-fits a b v && rows-fit rs
 
-test : rows-fit replacements ≡ true
+test : (units : Bool) → rows-fit (rowsBy units) ≡ true
 unfolding rows-fit row-fits encodeOf
-test = refl
+test true = refl
+test false = refl
 
 -- from a on, and not U+FFFD
 least-size : (a c : ℕ) → a ≤ c → eqb c 0xFFFD ≡ false → least a ≤ size c
@@ -200,9 +201,9 @@ own-size c =
     by (eqb c 0xFFFD) (λ e. let q = eqb-true c 0xFFFD e in rw q (omega arith))
     (λ e. rw e (omega (arith, length-append (encodeOf c) [])))
 
-replaced-size : (c : ℕ) → bytes (chars (replaceOf c)) ≤ 3 * size c
+replaced-size : (units : Bool) (c : ℕ) → bytes (chars (replaceOf units c)) ≤ 3 * size c
 unfolding replaceOf
-replaced-size c = rows-size replacements (One c) c test (own-size c)
+replaced-size units c = rows-size (rowsBy units) (One c) c (test units) (own-size c)
 
 -- ---- what a text owes
 abbrev leadBytes : Lead → ℕ
@@ -270,7 +271,7 @@ module _ (n : ℕ) (small : n ≤ 2) where
   abbrev cost : Step → ℕ
   cost s = leadBytes (s .lead) + bytes (imageChars (s .image)) + owes n (s .next .state) (s .next .«expect_starter»)
 
-  module _ (p : List ℕ) (r : TextInput) (c bound : ℕ) where
+  module _ (p : List ℕ) (o : Options) (r : TextInput) (c bound : ℕ) where
     guard-cost : (lead : Lead) (expect : Bool) (i : Replaced) → leadBytes lead ≤ bound → guard expect ≤ bound →
         leadBytes (guardOf p lead expect i) ≤ bound
     unfolding encodeOf
@@ -279,18 +280,18 @@ module _ (n : ℕ) (small : n ≤ 2) where
 
     met-cost : (lead : Lead) (expect : Bool) (m : Met) → leadBytes lead ≤ bound →
         leadBytes lead + guard expect ≤ bound + 1 → guard expect ≤ bound →
-        cost (metOf p r c lead expect m) ≤ 3 * size c + bound
+        cost (metOf p o r c lead expect m) ≤ 3 * size c + bound
     unfolding encodeOf
     met-cost lead expect Line l a b = omega (arith, size-pos c)
     met-cost lead expect (Opens s) l a b = omega (arith, owes-le n small s expect, size-pos c)
-    met-cost lead expect Other l a b = omega (arith, guard-cost lead expect (replaceOf c) l b, replaced-size c)
+    met-cost lead expect Other l a b = omega (arith, guard-cost lead expect (replacedBy o c) l b, replaced-size (o .«units_compatibility») c)
 
   module _ (p : List ℕ) (o : Options) (r : TextInput) where
     -- the ground state takes c, and nothing was given before it
     free-cost : (c : ℕ) → cost (groundOf p o r c Nothing (r .«expect_starter»)) ≤ 3 * size c + owed n r
     free-cost c =
         let g = owes-guard n (r .state) (r .«expect_starter») in
-        met-cost p r c (owed n r) Nothing (r .«expect_starter») (meetOf o c) (omega arith) (omega arith) g
+        met-cost p o r c (owed n r) Nothing (r .«expect_starter») (meetOf o c) (omega arith) (omega arith) g
 
     left-cost : (c : ℕ) (l : Left) → Given (r .state) l → cost (leftOf p o r c l) ≤ 3 * size c + owed n r
     unfolding encodeOf
@@ -302,8 +303,8 @@ module _ (n : ℕ) (small : n ≤ 2) where
     left-cost c (After a) h =
         let e : leadBytes (Char a) ≡ pending (r .state) = ap leadBytes (sym h) in
         let q = owes-pending n (r .state) (r .«expect_starter») in
-        met-cost p r c (owed n r) (Char a) false (meetOf o c) (omega arith) (omega arith) (omega arith)
-    left-cost c Dropped h = met-cost p r c (owed n r) Nothing false (meetOf o c) (omega arith) (omega arith) (omega arith)
+        met-cost p o r c (owed n r) (Char a) false (meetOf o c) (omega arith) (omega arith) (omega arith)
+    left-cost c Dropped h = met-cost p o r c (owed n r) Nothing false (meetOf o c) (omega arith) (omega arith) (omega arith)
 
     step-cost : (c : ℕ) → cost (scanStepOf p o r c) ≤ 3 * size c + owed n r
     unfolding scanStepOf

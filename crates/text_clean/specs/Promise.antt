@@ -31,7 +31,7 @@ pub record Decoding : Type 0 where
 -- spends nothing. That differs from the scanner's `scan`, where an empty first chunk spends the chance.
 pub data CleanedText (page : List ℕ) (options : Options) : List ℕ → List ℕ → Type 0 where
   text : {bytes cs : List ℕ} {n : ℕ} {xs : List Piece} → Lossy bytes cs n → Reading options (withoutBom cs) xs →
-      CleanedText page options bytes (encodeAll (cleaned page xs))
+      CleanedText page options bytes (encodeAll (cleaned page options xs))
 
 -- texts one after the other, each cleaned by itself
 pub data CleanedTexts (page : List ℕ) (options : Options) : List (List ℕ) → List ℕ → Type 0 where
@@ -104,7 +104,7 @@ pub record Promise (page : List ℕ) (options : Options) (lines : Bool) (bytes o
   pub only : (other : List ℕ) → CleanedTexts page options (textsOf lines bytes) other → other ≡ output
   -- where all is one text, the same in one line
   pub whole : lines ≡ false → (cs : List ℕ) (n : ℕ) → Lossy bytes cs n → (xs : List Piece) → Reading options (withoutBom cs) xs →
-      output ≡ encodeAll (cleaned page xs)
+      output ≡ encodeAll (cleaned page options xs)
   -- the output is UTF-8
   pub valid : (ds : List ℕ) × (areChars ds ≡ true) × (output ≡ encodeAll ds)
   -- what is counted: all that was written, the characters of the bytes, and those of the bytes that are no text, lines or not

@@ -70,7 +70,7 @@ pub record Streamed (page : List ℕ) (options : Options) (parts : List Part) (o
   pub read-as : Readings options (withoutBomStream sections) readings
   -- U+FEFF is dropped as the first character of all, and nowhere else; a push ends what is pending and adds no 0A; a 0A that is owed goes
   -- over it; a start is expected behind each finish
-  pub output-is : output ≡ encodeAll (streamOf page 0x0A false (withoutBomStream sections) readings)
+  pub output-is : output ≡ encodeAll (streamOf page options 0x0A false (withoutBomStream sections) readings)
   -- the counts: all characters; those of escapes and U+FEFF; the line ends that escapes take, where a finish ends the escape
   pub read : totals .read ≡ length (streamText sections)
   pub dropped : totals .dropped + length (streamText (withoutBomStream sections)) ≡ length (streamText sections) + escapedIn readings

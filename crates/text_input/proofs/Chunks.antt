@@ -74,7 +74,7 @@ mark-dropped (c ∷ cs) = dropped-by c cs (eqb c 0xFEFF)
 
 module _ (p : List ℕ) (o : Options) where
   met-marked : (r : TextInput) (start : Bool) (count c : ℕ) (lead : Lead) (e : Bool) (m : Met) →
-      metOf p (marked r start count) c lead e m ≡ markedStep (metOf p r c lead e m) start count
+      metOf p o (marked r start count) c lead e m ≡ markedStep (metOf p o r c lead e m) start count
   met-marked r start count c lead e Line = refl
   met-marked r start count c lead e (Opens s) = refl
   met-marked r start count c lead e Other = refl

@@ -32,7 +32,7 @@ use Rattle.text_input.specs.declared.step.Left.the-variants.{Part, Newli
 use Rattle.text_input.specs.declared.step.Met.{Met}
 use Rattle.text_input.specs.declared.step.Met.the-variants.{Line, Opens, Other}
 use Rattle.text_input_parts.specs.Appended.{leadChars, firstChar, lastOf, endMarkOf, newlineOf, guardOf}
-use Rattle.text_input.specs.Step.{outChars, leaveOf, meetOf, metOf, leftOf, scanStepOf}
+use Rattle.text_input.specs.Step.{outChars, leaveOf, replacedBy, meetOf, metOf, leftOf, scanStepOf}
 use Rattle.text_input.specs.Scan.{skipped, opened, scanChars, pendingOf, afterLine, finishChars}
 use Rattle.text_input.specs.Inner.{outs}
 use Rattle.text_input.proofs.Room.{Given, given-pending}
@@ -41,7 +41,7 @@ pub other-no-escape : (o : Options) (c : ℕ) → meetOf o c ≡ Other → c ≡
 unfolding meetOf
 other-no-escape o c h e = let g : Opens Esc ≡ Other = rw e at h in let z : _≡_ {A = ℕ} 0 1 = cc in omega arith
 
--- ---- a test that 0A, 20, 34F and the replacement of any character but ESC pass
+-- ---- a test that 0A, 20 and 34F pass and, for a run, the replacement of any character but ESC
 module _ (f : ℕ → Bool) where
   one : (x : ℕ) → T (f x) → T (all f (x ∷ []))
   one x h = and-i (f x) true h tt
@@ -54,7 +54,9 @@ record Passes (f : ℕ → Bool) : Type 0 where
   newline : T (f 0x0A)
   space : T (f 0x20)
   joiner : T (f 0x34F)
-  replaced : (c : ℕ) → isChar c ≡ true → (c ≡ 0x1B → ⊥) → T (all f (chars (replaceOf c)))
+
+abbrev ReplacedPass : Options → (ℕ → Bool) → Type 0
+ReplacedPass o f = (c : ℕ) → isChar c ≡ true → (c ≡ 0x1B → ⊥) → T (all f (chars (replaceOf (o .«units_compatibility») c)))
 
 module _ (f : ℕ → Bool) (pass : Passes f) where
   abbrev Leads : Lead → Type 0
@@ -71,18 +73,18 @@ module _ (f : ℕ → Bool) (pass : Passes f) where
   pending-pass Linux = tt
 
   -- ---- a step
-  module _ (p : List ℕ) (o : Options) where
+  module _ (p : List ℕ) (o : Options) (replaced : ReplacedPass o f) where
     guard-pass : (lead : Lead) (expect : Bool) (i : Replaced) → Leads lead → Leads (guardOf p lead expect i)
     guard-pass lead true i h = split Leads (basicTextStart p (firstChar i)) (λ e. h) (λ e. one f 0x34F (pass .joiner))
     guard-pass lead false i h = h
 
     met-pass : (r : TextInput) (c : ℕ) (lead : Lead) (expect : Bool) (m : Met) → meetOf o c ≡ m → isChar c ≡ true → Leads lead →
-        T (all f (outChars (metOf p r c lead expect m)))
+        T (all f (outChars (metOf p o r c lead expect m)))
     met-pass r c lead expect Line e char h = append f (leadChars lead) (0x0A ∷ []) h (one f 0x0A (pass .newline))
     met-pass r c lead expect (Opens s) e char h = append f (leadChars lead) [] h tt
     met-pass r c lead expect Other e char h =
-        append f (leadChars (guardOf p lead expect (replaceOf c))) (chars (replaceOf c)) (guard-pass lead expect (replaceOf c) h)
-        (pass .replaced c char (other-no-escape o c e))
+        append f (leadChars (guardOf p lead expect (replacedBy o c))) (chars (replacedBy o c)) (guard-pass lead expect (replacedBy o c) h)
+        (replaced c char (other-no-escape o c e))
 
     left-pass : (r : TextInput) (c : ℕ) (l : Left) → Given (r .state) l → isChar c ≡ true → T (all f (outChars (leftOf p o r c l)))
     left-pass r c (Part s) h char = tt
@@ -115,9 +117,9 @@ module _ (f : ℕ → Bool) (pass : Passes f) where
       (split Leads owed (λ e. one f 0x0A (pass .newline)) (λ e. tt)))
 
 -- ---- the two tests
-clean-passes : Passes clean
+clean-passes : (units : Bool) → Passes (clean units)
 unfolding reasonOf
-clean-passes = record { newline = tt; space = tt; joiner = tt; replaced = λ c char n. replaced-clean c (char-lt c char) n }
+clean-passes units = record { newline = tt; space = tt; joiner = tt }
 
 -- being characters, as such a test
 to-test : (w : List ℕ) → areChars w ≡ true → T (all isChar w)
@@ -132,7 +134,7 @@ from-test (x ∷ w) h =
 
 char-passes : Passes isChar
 unfolding isChar
-char-passes = record { newline = tt; space = tt; joiner = tt; replaced = λ c char n. to-test (chars (replaceOf c)) (replaced-chars c char) }
+char-passes = record { newline = tt; space = tt; joiner = tt }
 
 -- ---- the queue
 drop-chars : (n : ℕ) (cs : List ℕ) → areChars cs ≡ true → areChars (drop n cs) ≡ true
@@ -141,14 +143,17 @@ drop-chars (suc n) [] h = refl
 drop-chars (suc n) (c ∷ cs) h = drop-chars n cs (both-true (isChar c) (areChars cs) h .1)
 
 module _ (p : List ℕ) (o : Options) (r : TextInput) (cs : List ℕ) (h : areChars cs ≡ true) where
-  pub run-clean : T (all clean (outs p o r cs))
-  run-clean = run-pass clean clean-passes p o r cs h
+  pub run-clean : T (all (clean (o .«units_compatibility»)) (outs p o r cs))
+  run-clean =
+      run-pass (clean (o .«units_compatibility»)) (clean-passes (o .«units_compatibility»)) p o (λ c char n. replaced-clean (o .«units_compatibility») c (char-lt c char) n) r cs h
 
   pub run-chars : areChars (outs p o r cs) ≡ true
-  run-chars = from-test (outs p o r cs) (run-pass isChar char-passes p o r cs h)
+  run-chars =
+      from-test (outs p o r cs)
+      (run-pass isChar char-passes p o (λ c char n. to-test (chars (replaceOf (o .«units_compatibility») c)) (replaced-chars (o .«units_compatibility») c char)) r cs h)
 
 module _ (p : List ℕ) (o : Options) (r : TextInput) (chunk : List ℕ) (h : areChars chunk ≡ true) where
-  pub scan-clean : T (all clean (scanChars p o r chunk))
+  pub scan-clean : T (all (clean (o .«units_compatibility»)) (scanChars p o r chunk))
   scan-clean =
       run-clean p o (opened r (length chunk)) (drop (skipped r chunk) chunk) (drop-chars (skipped r chunk) chunk h)
 
@@ -156,8 +161,9 @@ module _ (p : List ℕ) (o : Options) (r : TextInput) (chunk : List ℕ) (h : ar
   scan-chars =
       run-chars p o (opened r (length chunk)) (drop (skipped r chunk) chunk) (drop-chars (skipped r chunk) chunk h)
 
-pub finish-clean : (r : TextInput) (eof : Bool) → T (all clean (finishChars r eof))
-finish-clean r eof = finish-pass clean clean-passes r eof
+-- a finish takes no options: what it appends is clean with that for units on and off
+pub finish-clean : (units : Bool) (r : TextInput) (eof : Bool) → T (all (clean units) (finishChars r eof))
+finish-clean units r eof = finish-pass (clean units) (clean-passes units) r eof
 
 pub finish-chars : (r : TextInput) (eof : Bool) → areChars (finishChars r eof) ≡ true
 finish-chars r eof = from-test (finishChars r eof) (finish-pass isChar char-passes r eof)

@@ -1,4 +1,4 @@
--- Lists of calls on a fresh scanner, with the answers of the comparison's oracle, which is the original Rust with what document 01 adds:
+-- Lists of calls on a fresh scanner, with the answers of the comparison's oracle, which is the original Rust with what the documents add:
 -- the definitions give the same, character by character of what is written, by computing both. By the page 0 1 0 377; a scan of n
 -- characters is lent the 3 × n + 1 places that it needs, an empty one none, and a finish 2. Characters are hexadecimal.
 --     finishes    what is pending at a finish, 34F and 0A
@@ -20,7 +20,7 @@ use Rattle.text_input.specs.declared.Options.{Options}
 use Rattle.text_input.specs.declared.TextInput.{TextInput}
 use Rattle.text_input.specs.Sets.{optionalLine}
 use Rattle.text_input.specs.Step.{leaveOf, meetOf, scanStepOf}
-use Rattle.text_input.specs.Scan.{Outcome, fresh, scanOf, finishOf}
+use Rattle.text_input.specs.Scan.{allOff, Outcome, fresh, scanOf, finishOf}
 
 pub data Act : Type 0 where
   scan : Options → List ℕ → Act
@@ -34,12 +34,12 @@ pub record Row : Type 0 where
 abbrev row : List Act → List (List ℕ) → Row
 row acts expected = record { acts = acts; expected = expected }
 
--- "Options are `nel_compatibility` and `lsps_compatibility`."
+-- "Options are `nel_compatibility` and `lsps_compatibility`."; that for units is off
 abbrev with : Bool → Bool → Options
-with nel lsps = record { «nel_compatibility» = nel; «lsps_compatibility» = lsps }
+with nel lsps = record { «nel_compatibility» = nel; «lsps_compatibility» = lsps; «units_compatibility» = false }
 
 abbrev neither : Options
-neither = with false false
+neither = allOff
 
 abbrev nel : Options
 nel = with true false
@@ -49,6 +49,10 @@ lsps = with false true
 
 abbrev either : Options
 either = with true true
+
+-- "Add a scanner option under which replacement turns U+2126 into U+03A9"
+abbrev units : Options
+units = record { «nel_compatibility» = false; «lsps_compatibility» = false; «units_compatibility» = true }
 
 -- ---- what a row's calls give
 abbrev roomFor : List ℕ → ℕ
@@ -260,6 +264,13 @@ chunkTable =
     -- "Any other character: its replacement."
     ∷ row (scan neither (0x09 ∷ 0xFB03 ∷ 0x2126 ∷ 0xE000 ∷ []) ∷ finish true ∷ [])
     ((0 ∷ 0x09 ∷ 0x66 ∷ 0x66 ∷ 0x69 ∷ 0x2126 ∷ 0xE000 ∷ []) ∷ (0 ∷ 0x0A ∷ []) ∷ [])
+    -- the signs for units by their option, which may change from call to call; none is a line end by it
+    ∷ row
+    (scan units (0x2126 ∷ 0x212A ∷ 0x212B ∷ 0x85 ∷ 0x2028 ∷ []) ∷ scan either (0x2126 ∷ 0x212A ∷ 0x212B ∷ []) ∷ scan units (0x2126 ∷ []) ∷ finish true ∷ [])
+    ((0 ∷ 0x3A9 ∷ 0x4B ∷ 0xC5 ∷ 0x20 ∷ 0x20 ∷ []) ∷ (0 ∷ 0x2126 ∷ 0x212A ∷ 0x212B ∷ []) ∷ (0 ∷ 0x3A9 ∷ []) ∷ (0 ∷ 0x0A ∷ []) ∷ [])
+    -- inside a page run, a string and an escape they are as any other character
+    ∷ row (scan units (0x0C ∷ 0x212A ∷ 0x1B ∷ 0x5D ∷ 0x2126 ∷ 0x07 ∷ 0x1B ∷ 0x5B ∷ 0x5B ∷ 0x212B ∷ []) ∷ finish true ∷ [])
+    ((0 ∷ 0x20 ∷ 0x4B ∷ 0xC5 ∷ []) ∷ (0 ∷ 0x0A ∷ []) ∷ [])
     ∷ []
 
 pub chunks : map computed chunkTable ≡ map (λ (x : Row). x .expected) chunkTable

@@ -1,6 +1,6 @@
 -- The proofs of this crate. First the readings and what the scanner makes of them: every text has one reading (`Unique`), the scanner
 -- over one piece (`Run`), over a text (`Meaning`), over chunks (`Chunks`) and over streams (`Streams`); the room a call needs (`Room`),
--- what the queue holds (`Clean`), the order of refusals and what each leaves (`Refusals`), line ends by option (`Sets`); lists of calls with
+-- what the queue holds (`Clean`), the order of refusals and what each leaves (`Refusals`), what each option does (`Sets`); lists of calls with
 -- the answers of the Rust (`Examples`). Then what the functions' contracts rest on.
 pub mod Sets
 pub mod Recognise

@@ -13,7 +13,7 @@ use lib.Dec.{eqb}
 use borrow.Author.Tests.{eqb-true}
 use Rattle.replace.specs.declared.Replaced.{Replaced}
 use Rattle.replace.specs.declared.Replaced.the-variants.{One, Two, Three}
-use Rattle.replace.specs.Replace.{chars, replaceOf}
+use Rattle.replace.specs.Replace.{chars}
 use Rattle.page.specs.Page.{accepted}
 use Rattle.text_utils.specs.Classes.{basicTextStart}
 use Rattle.text_input.specs.declared.State.{State}
@@ -31,7 +31,7 @@ use Rattle.text_input.specs.declared.step.Met.the-variants.{Line, Opens,
 use Rattle.text_input.specs.declared.step.Step.{Step}
 use Rattle.text_input_parts.specs.PieceSets.{crOrLf}
 use Rattle.text_input_parts.specs.Appended.{leadChars, imageChars, lastOf, endMarkOf, newlineOf, guardOf}
-use Rattle.text_input.specs.Step.{outChars, madeOf, metOf, leftOf, leaveOf, meetOf}
+use Rattle.text_input.specs.Step.{outChars, replacedBy, madeOf, metOf, leftOf, leaveOf, meetOf}
 use Rattle.text_input.specs.Step.{scanStepOf}
 use Rattle.text_input.specs.Scan.{finishChars, finishNext, afterLine}
 use Rattle.text_input.specs.Inner.{outs, ends}
@@ -64,15 +64,15 @@ guard-is p false (x ∷ w) = refl
 guard-is p true (x ∷ w) = refl
 
 -- within a piece its first characters do not matter for its image
-image-inner : (i : Inner) (w t : List ℕ) → pieceImage (kindOf i) [] t ≡ pieceImage (kindOf i) w t
+image-inner : (o : Options) (i : Inner) (w t : List ℕ) → pieceImage o (kindOf i) [] t ≡ pieceImage o (kindOf i) w t
 unfolding pieceImage
-image-inner cr w t = refl
-image-inner ff w t = refl
-image-inner esc w t = refl
-image-inner csiStart w t = refl
-image-inner csi w t = refl
-image-inner osc w t = refl
-image-inner linux w t = refl
+image-inner o cr w t = refl
+image-inner o ff w t = refl
+image-inner o esc w t = refl
+image-inner o csiStart w t = refl
+image-inner o csi w t = refl
+image-inner o osc w t = refl
+image-inner o linux w t = refl
 
 -- ---- any other character
 guarded-lead : (p : List ℕ) (e : Bool) (a : ℕ) (w : List ℕ) →
@@ -106,7 +106,7 @@ module _ (p : List ℕ) (o : Options) (eof start : Bool) (count : ℕ) where
   -- ---- from the ground state over the first piece
   opened : Class → ℕ → Bool → ℕ → List ℕ → Closed
   opened (opens i) c e n t = from t (stateOf i) e n
-  opened (single k) c e n t = then (isLine k) (pieceImage k (c ∷ []) t) e n t
+  opened (single k) c e n t = then (isLine k) (pieceImage o k (c ∷ []) t) e n t
 
   opened-by : accepted p ≡ true → (b : Bool) (c : ℕ) (t : List ℕ) (e : Bool) (n : ℕ) (d f g a z : Bool) →
       eqb c 0x0D ≡ d → eqb c 0x0C ≡ f → eqb c 0x1B ≡ g → eqb c 0x0A ≡ a → optionChar o c ≡ z →
@@ -120,18 +120,18 @@ module _ (p : List ℕ) (o : Options) (eof start : Bool) (count : ℕ) where
   opened-by good b c t e n false false false false true hd hf hg ha hz =
       rw (option-is o c, hd, hf, hg, ha, hz) (unfold told expectAfter in rw (guard-line p o eof start count good e))
   opened-by good b c t e n false false false false false hd hf hg ha hz =
-      rw (option-is o c, hd, hf, hg, ha, hz) (over-other (replaceOf c) e n t)
+      rw (option-is o c, hd, hf, hg, ha, hz) (over-other (replacedBy o c) e n t)
 
   over-first : accepted p ≡ true → (c : ℕ) (t : List ℕ) (x : Class) (e : Bool) (n : ℕ) →
       opened x c e n t
-      ≡ then (isLine (kindC x)) (pieceImage (kindC x) (c ∷ tailOf x t .taken) (tailOf x t .rest)) e n (tailOf x t .rest)
+      ≡ then (isLine (kindC x)) (pieceImage o (kindC x) (c ∷ tailOf x t .taken) (tailOf x t .rest)) e n (tailOf x t .rest)
   unfolding opened tailOf kindC onward
   over-first good c t (opens i) e n =
-      run-cut p o eof start count good i t e n ∙ rw (image-inner i (c ∷ cut i t .taken) (cut i t .rest))
+      run-cut p o eof start count good i t e n ∙ rw (image-inner o i (c ∷ cut i t .taken) (cut i t .rest))
   over-first good c t (single k) e n = refl
 
   told-piece : Piece → Bool → ℕ → List ℕ → Closed
-  told-piece x e n t = then (isLine (x .kind)) (pieceImage (x .kind) (x .text) t) e n t
+  told-piece x e n t = then (isLine (x .kind)) (pieceImage o (x .kind) (x .text) t) e n t
 
   -- the piece of the reading is the one that the scanner goes over
   over-piece : accepted p ≡ true → (x : Piece) (w t : List ℕ) → x .text ≡ w → LongestPiece o x t → (b e : Bool) (n : ℕ) →
@@ -159,16 +159,16 @@ module _ (p : List ℕ) (o : Options) (eof start : Bool) (count : ℕ) where
 
   pieces-by : accepted p ≡ true → (xs : List Piece) → EachLongest o xs → (b e : Bool) (n : ℕ) →
       from (join xs) (Ground b) e n
-      ≡ record { out = guard p e (image xs) ++ closing (owedAfter (not b) xs) (lastOf n (image xs)); line = not (owedAfter (not b) xs) }
+      ≡ record { out = guard p e (image o xs) ++ closing (owedAfter (not b) xs) (lastOf n (image o xs)); line = not (owedAfter (not b) xs) }
   unfolding join image owedAfter told-piece told
   pieces-by good [] l b e n = unfold complete guard in rw (closing-is b e n, Bool·not-not b)
   pieces-by good (x ∷ xs) l b e n =
-      let w = pieceImage (x .kind) (x .text) (join xs) in
+      let w = pieceImage o (x .kind) (x .text) (join xs) in
       over-piece good x (x .text) (join xs) refl (l .0) b e n
       ∙ rw (
         pieces-by good xs (l .1) (isLine (x .kind)) (expectAfter e w) (lastOf n w),
-        guard-append p e w (image xs),
-        ← last-append n w (image xs),
+        guard-append p e w (image o xs),
+        ← last-append n w (image o xs),
         append-assoc,
       )
 
@@ -190,18 +190,18 @@ made-keeps : (r : TextInput) (lead : Lead) (image : Image) (s : State) (e : Bool
 made-keeps r lead image s e =
     record { last = (last-append (r .last) (leadChars lead) (imageChars image)); start = refl; count = refl }
 
-met-keeps : (p : List ℕ) (r : TextInput) (c : ℕ) (lead : Lead) (e : Bool) (m : Met) → Keeps r (metOf p r c lead e m)
-met-keeps p r c lead e Line = made-keeps r lead (Chars (One 0x0A)) (Ground true) false
-met-keeps p r c lead e (Opens s) = made-keeps r lead Empty s e
-met-keeps p r c lead e Other = made-keeps r (guardOf p lead e (replaceOf c)) (Chars (replaceOf c)) (Ground false) false
+met-keeps : (p : List ℕ) (o : Options) (r : TextInput) (c : ℕ) (lead : Lead) (e : Bool) (m : Met) → Keeps r (metOf p o r c lead e m)
+met-keeps p o r c lead e Line = made-keeps r lead (Chars (One 0x0A)) (Ground true) false
+met-keeps p o r c lead e (Opens s) = made-keeps r lead Empty s e
+met-keeps p o r c lead e Other = made-keeps r (guardOf p lead e (replacedBy o c)) (Chars (replacedBy o c)) (Ground false) false
 
 left-keeps : (p : List ℕ) (o : Options) (r : TextInput) (c : ℕ) (l : Left) → Keeps r (leftOf p o r c l)
 left-keeps p o r c (Part s) = made-keeps r Nothing Empty s (r .«expect_starter»)
 left-keeps p o r c Newline = made-keeps r Nothing (Chars (One 0x0A)) (Ground true) false
-left-keeps p o r c Goes = met-keeps p r c Nothing (r .«expect_starter») (meetOf o c)
-left-keeps p o r c Ends = met-keeps p r c Nothing (r .«expect_starter») (meetOf o c)
-left-keeps p o r c (After a) = met-keeps p r c (Char a) false (meetOf o c)
-left-keeps p o r c Dropped = met-keeps p r c Nothing false (meetOf o c)
+left-keeps p o r c Goes = met-keeps p o r c Nothing (r .«expect_starter») (meetOf o c)
+left-keeps p o r c Ends = met-keeps p o r c Nothing (r .«expect_starter») (meetOf o c)
+left-keeps p o r c (After a) = met-keeps p o r c (Char a) false (meetOf o c)
+left-keeps p o r c Dropped = met-keeps p o r c Nothing false (meetOf o c)
 
 step-keeps : (p : List ℕ) (o : Options) (r : TextInput) (c : ℕ) → Keeps r (scanStepOf p o r c)
 unfolding scanStepOf
@@ -225,16 +225,16 @@ ends-count p o r (c ∷ t) = ends-count p o (scanStepOf p o r c .next) t ∙ ste
 
 -- ---- THE SECTION
 -- the image of the pieces, with 34F before it where a start is expected; then what the finish adds
-unfoldable pub sectionAfter : List ℕ → Bool → ℕ → Bool → List Piece → Bool → List ℕ
-sectionAfter p expect last owed xs eof =
-    cond expect (startMark p (image xs)) []
-    ++ (image xs ++ (leadChars (endMarkOf (lastOf last (image xs))) ++ leadChars (newlineOf (eof && owedAfter owed xs))))
+unfoldable pub sectionAfter : List ℕ → Options → Bool → ℕ → Bool → List Piece → Bool → List ℕ
+sectionAfter p o expect last owed xs eof =
+    cond expect (startMark p (image o xs)) []
+    ++ (image o xs ++ (leadChars (endMarkOf (lastOf last (image o xs))) ++ leadChars (newlineOf (eof && owedAfter owed xs))))
 
 module _ (p : List ℕ) (good : accepted p ≡ true) (o : Options) (r : TextInput) (b : Bool) (ground : r .state ≡ Ground b) where
   section-closed : (t : List ℕ) (xs : List Piece) → Reading o t xs → (eof : Bool) →
       _≡_ {A = Closed}
       (record { out = outs p o r t ++ finishChars (ends p o r t) eof; line = afterLine (ends p o r t .state) })
-      (record { out = sectionAfter p (r .«expect_starter») (r .last) (not b) xs eof; line = not (owedAfter (not b) xs) })
+      (record { out = sectionAfter p o (r .«expect_starter») (r .last) (not b) xs eof; line = not (owedAfter (not b) xs) })
   unfolding sectionAfter
   section-closed t xs read eof =
       let start = r .«at_start» in
@@ -246,11 +246,11 @@ module _ (p : List ℕ) (good : accepted p ≡ true) (o : Options) (r : TextInpu
       sym (complete-scan p o eof start count t r)
       ∙ ap₂ (λ (u : List ℕ) (z : TextInput). complete p o eof start count u z) (sym (read .joined)) same
       ∙ pieces-by p o eof start count good xs (read .longest) b e n
-      ∙ unfold closing in rw (guard-is p e (image xs), append-assoc)
+      ∙ unfold closing in rw (guard-is p e (image o xs), append-assoc)
 
   -- what a text and a finish append
   pub section-chars : (t : List ℕ) (xs : List Piece) → Reading o t xs → (eof : Bool) →
-      outs p o r t ++ finishChars (ends p o r t) eof ≡ sectionAfter p (r .«expect_starter») (r .last) (not b) xs eof
+      outs p o r t ++ finishChars (ends p o r t) eof ≡ sectionAfter p o (r .«expect_starter») (r .last) (not b) xs eof
   section-chars t xs read eof = ap (λ (x : Closed). x .out) (section-closed t xs read eof)
 
   section-line : (t : List ℕ) (xs : List Piece) → Reading o t xs → afterLine (ends p o r t .state) ≡ not (owedAfter (not b) xs)
@@ -258,7 +258,7 @@ module _ (p : List ℕ) (good : accepted p ≡ true) (o : Options) (r : TextInpu
 
   section-last : (t : List ℕ) (xs : List Piece) → Reading o t xs → (eof : Bool) →
       lastOf (ends p o r t .last) (finishChars (ends p o r t) eof)
-      ≡ lastOf (r .last) (sectionAfter p (r .«expect_starter») (r .last) (not b) xs eof)
+      ≡ lastOf (r .last) (sectionAfter p o (r .«expect_starter») (r .last) (not b) xs eof)
   section-last t xs read eof =
       ap (λ n. lastOf n (finishChars (ends p o r t) eof)) (ends-last p o r t)
       ∙ (last-append (r .last) (outs p o r t) (finishChars (ends p o r t) eof))
@@ -271,7 +271,7 @@ module _ (p : List ℕ) (good : accepted p ≡ true) (o : Options) (r : TextInpu
         state = Ground (eof || not (owedAfter (not b) xs));
         «expect_starter» = true;
         «at_start» = r .«at_start»;
-        last = lastOf (r .last) (sectionAfter p (r .«expect_starter») (r .last) (not b) xs eof);
+        last = lastOf (r .last) (sectionAfter p o (r .«expect_starter») (r .last) (not b) xs eof);
         count = r .count;
       }
   section-next t xs read eof =

@@ -17,6 +17,7 @@ use lib.Dec.{eqb}
 use lib.ListN.{length, drop, length-append, length-drop}
 use Rattle.common.proofs.Kit.{split}
 use Rattle.replace.specs.declared.Replaced.{Replaced}
+use Rattle.replace.specs.declared.Replaced.the-variants.{Three}
 use Rattle.replace.specs.Replace.{replaceOf}
 use Rattle.text_utils.specs.Classes.{basicTextStart, basicTextEnd}
 use Rattle.text_utils.proofs.Classes.{end-newline, end-space}
@@ -35,7 +36,7 @@ use Rattle.text_input.specs.declared.step.Step.{Step}
 use Rattle.text_input_parts.specs.Sets.{parameter, final, stringEnd, upTo7F, newlineChar}
 use Rattle.text_input.specs.Sets.{optionalLine}
 use Rattle.text_input_parts.specs.Appended.{leadChars, imageChars, firstChar, lastOf, endMarkOf, newlineOf, guardOf}
-use Rattle.text_input.specs.Step.{outChars, csiLeave, leaveOf, meetOf, metOf, groundOf, leftOf, scanStepOf}
+use Rattle.text_input.specs.Step.{outChars, csiLeave, leaveOf, replacedBy, meetOf, metOf, groundOf, leftOf, scanStepOf}
 use Rattle.text_input_parts.specs.Refusals.{placesForChunk}
 use Rattle.text_input.specs.Scan.{skipped, opened, scanChars, pendingOf, afterLine, finishChars}
 use Rattle.text_input.specs.Inner.{outs}
@@ -80,17 +81,17 @@ owes-pending s false = omega arith
 abbrev cost : Step → ℕ
 cost s = length (leadChars (s .lead)) + length (imageChars (s .image)) + owes (s .next .state) (s .next .«expect_starter»)
 
-module _ (p : List ℕ) (r : TextInput) (c bound : ℕ) where
+module _ (p : List ℕ) (o : Options) (r : TextInput) (c bound : ℕ) where
   guard-cost : (lead : Lead) (expect : Bool) (i : Replaced) → length (leadChars lead) ≤ bound → bit expect ≤ bound →
       length (leadChars (guardOf p lead expect i)) ≤ bound
   guard-cost lead true i l b = split (λ (g : Lead). length (leadChars g) ≤ bound) (basicTextStart p (firstChar i)) (λ e. l) (λ e. b)
   guard-cost lead false i l b = l
 
   met-cost : (lead : Lead) (expect : Bool) (m : Met) → length (leadChars lead) ≤ bound → bit expect ≤ bound →
-      cost (metOf p r c lead expect m) ≤ 3 + bound
+      cost (metOf p o r c lead expect m) ≤ 3 + bound
   met-cost lead expect Line l b = omega arith
   met-cost lead expect (Opens s) l b = omega (arith, owes-one s expect)
-  met-cost lead expect Other l b = omega (arith, guard-cost lead expect (replaceOf c) l b, replaced-length (replaceOf c) .1)
+  met-cost lead expect Other l b = omega (arith, guard-cost lead expect (replacedBy o c) l b, replaced-length (replacedBy o c) .1)
 
 -- what is given before the ground state takes c is what was pending
 abbrev pub Given : State → Left → Type 0
@@ -121,7 +122,7 @@ module _ (p : List ℕ) (o : Options) (r : TextInput) where
   -- the ground state takes c, and nothing was given before it
   free-cost : (c : ℕ) → cost (groundOf p o r c Nothing (r .«expect_starter»)) ≤ 3 + owed r
   free-cost c =
-      met-cost p r c (owed r) Nothing (r .«expect_starter») (meetOf o c) (omega arith) (owes-guard (r .state) (r .«expect_starter»))
+      met-cost p o r c (owed r) Nothing (r .«expect_starter») (meetOf o c) (omega arith) (owes-guard (r .state) (r .«expect_starter»))
 
   left-cost : (c : ℕ) (l : Left) → Given (r .state) l → cost (leftOf p o r c l) ≤ 3 + owed r
   left-cost c (Part s) h = omega (arith, owes-one s (r .«expect_starter»))
@@ -130,8 +131,8 @@ module _ (p : List ℕ) (o : Options) (r : TextInput) where
   left-cost c Ends h = free-cost c
   left-cost c (After a) h =
       let one : pending (r .state) ≡ 1 = rw h in
-      met-cost p r c (owed r) (Char a) false (meetOf o c) (omega (arith, owes-pending (r .state) (r .«expect_starter»))) (omega arith)
-  left-cost c Dropped h = met-cost p r c (owed r) Nothing false (meetOf o c) (omega arith) (omega arith)
+      met-cost p o r c (owed r) (Char a) false (meetOf o c) (omega (arith, owes-pending (r .state) (r .«expect_starter»))) (omega arith)
+  left-cost c Dropped h = met-cost p o r c (owed r) Nothing false (meetOf o c) (omega arith) (omega arith)
 
   step-cost : (c : ℕ) → cost (scanStepOf p o r c) ≤ 3 + owed r
   unfolding scanStepOf
@@ -171,12 +172,17 @@ pub part-room : (p : List ℕ) (o : Options) (r : TextInput) (n : ℕ) (cs : Lis
 part-room p o r n cs =
     omega (arith, run-room p o r (drop n cs), fewer (length (drop n cs)) (length cs) (omega (arith, length-drop n cs)))
 
+ligature : (units : Bool) → replaceOf units 0xFB03 ≡ Three 0x66 0x66 0x69
+unfolding replaceOf
+ligature true = refl
+ligature false = refl
+
 -- no fewer would do: "after 0D, the chunk FB03 gives 0A 66 66 69, four places: accepted with 4, refused with 3."
 pub exact : (p : List ℕ) (o : Options) (last count : ℕ) →
     length (outs p o (record { state = Cr; «expect_starter» = false; «at_start» = false; last = last; count = count }) (0xFB03 ∷ []))
     ≡ 4
-unfolding scanStepOf leaveOf meetOf optionalLine replaceOf
-exact p o last count = refl
+unfolding scanStepOf leaveOf meetOf optionalLine
+exact p o last count = simp ligature
 
 pub scan-room : (p : List ℕ) (o : Options) (r : TextInput) (chunk : List ℕ) →
     length (scanChars p o r chunk) ≤ placesForChunk (length chunk)

@@ -101,7 +101,7 @@ module _ (p : List ℕ) (o : Options) (eof start : Bool) (count : ℕ) where
 
   -- after a piece of this kind
   unfoldable pub onward : Kind → Bool → ℕ → List ℕ → Closed
-  onward k e n t = told (isLine k) (pieceImage k [] t) e n t
+  onward k e n t = told (isLine k) (pieceImage o k [] t) e n t
 
   -- after a step
   resume : Step → List ℕ → Closed
@@ -129,13 +129,13 @@ module _ (p : List ℕ) (o : Options) (eof start : Bool) (count : ℕ) where
 
   -- ---- the ground state takes the character: it does not see the state and expectation before
   met-any : (m : Met) (s z : State) (d e x : Bool) (n c : ℕ) (lead : Lead) →
-      metOf p (at s d n) c lead x m ≡ metOf p (at z e n) c lead x m
+      metOf p o (at s d n) c lead x m ≡ metOf p o (at z e n) c lead x m
   met-any Line s z d e x n c lead = refl
   met-any (Opens q) s z d e x n c lead = refl
   met-any Other s z d e x n c lead = refl
 
   met-after : (m : Met) (s z : State) (d e : Bool) (n c a : ℕ) (t : List ℕ) →
-      resume (metOf p (at s d n) c (Char a) false m) t ≡ pre (a ∷ []) (resume (metOf p (at z e a) c Nothing false m) t)
+      resume (metOf p o (at s d n) c (Char a) false m) t ≡ pre (a ∷ []) (resume (metOf p o (at z e a) c Nothing false m) t)
   unfolding resume
   met-after Line s z d e n c a t = refl
   met-after (Opens q) s z d e n c a t = refl

@@ -48,10 +48,10 @@ newline-lead : (b : Bool) → leadChars (cond b (Char 0x0A) Nothing) ≡ cond b 
 newline-lead true = refl
 newline-lead false = refl
 
-section-is : (p : List ℕ) (n : ℕ) (owed : Bool) (xs : List Piece) (eof : Bool) →
-    sectionAfter p true n owed xs eof ≡ sectionOf p n owed xs eof
+section-is : (p : List ℕ) (o : Options) (n : ℕ) (owed : Bool) (xs : List Piece) (eof : Bool) →
+    sectionAfter p o true n owed xs eof ≡ sectionOf p o n owed xs eof
 unfolding sectionAfter sectionOf
-section-is p n owed xs eof = rw (joiner-lead (basicTextEnd (lastOf n (image xs))), newline-lead (eof && owedAfter owed xs))
+section-is p o n owed xs eof = rw (joiner-lead (basicTextEnd (lastOf n (image o xs))), newline-lead (eof && owedAfter owed xs))
 
 -- a whole text's
 endMark-is : (w : List ℕ) → cond (basicTextEnd (lastOf 0x0A w)) [] (0x34F ∷ []) ≡ endMark w
@@ -73,9 +73,9 @@ pub lastNewline-is : (xs : List Piece) → cond (owedAfter false xs) (0x0A ∷ [
 lastNewline-is [] = unfold owedAfter lastNewline in refl
 lastNewline-is (x ∷ xs) = newline-is false x xs
 
-whole-is : (p : List ℕ) (xs : List Piece) → sectionOf p 0x0A false xs true ≡ cleaned p xs
+whole-is : (p : List ℕ) (o : Options) (xs : List Piece) → sectionOf p o 0x0A false xs true ≡ cleaned p o xs
 unfolding sectionOf cleaned
-whole-is p xs = rw (endMark-is (image xs), lastNewline-is xs)
+whole-is p o xs = rw (endMark-is (image o xs), lastNewline-is xs)
 
 module _ (p : List ℕ) (good : accepted p ≡ true) (o : Options) where
   -- ---- one section: the chunks cs come to a run over the text t
@@ -98,28 +98,28 @@ module _ (p : List ℕ) (good : accepted p ≡ true) (o : Options) where
   module _ (b a : Bool) (n k : ℕ) (cs : List (List ℕ)) (t : List ℕ) (start : Bool) (count : ℕ)
       (h : Comes (ready b a n k) cs t start count) (xs : List Piece) (read : Reading o t xs) (eof : Bool) where
     section-step : scansChars p o (ready b a n k) cs ++ finishChars (scansNext p o (ready b a n k) cs) eof
-        ≡ sectionOf p n (not b) xs eof
+        ≡ sectionOf p o n (not b) xs eof
     section-step =
         ap₂ (λ (u : List ℕ) (z : TextInput). u ++ finishChars z eof) (h .chars) (h .next)
         ∙ section-chars p good o (ready b a n k) b refl t xs read eof
-        ∙ section-is p n (not b) xs eof
+        ∙ section-is p o n (not b) xs eof
 
     section-ready : finishNext (scansNext p o (ready b a n k) cs) eof
-        ≡ ready (eof || not (owedAfter (not b) xs)) start (lastOf n (sectionOf p n (not b) xs eof)) count
+        ≡ ready (eof || not (owedAfter (not b) xs)) start (lastOf n (sectionOf p o n (not b) xs eof)) count
     section-ready =
         ap (λ (z : TextInput). finishNext z eof) (h .next)
         ∙ ap (λ (z : TextInput). marked z start count) (section-next p good o (ready b a n k) b refl t xs read eof)
-        ∙ ap (λ w. ready (eof || not (owedAfter (not b) xs)) start (lastOf n w) count) (section-is p n (not b) xs eof)
+        ∙ ap (λ w. ready (eof || not (owedAfter (not b) xs)) start (lastOf n w) count) (section-is p o n (not b) xs eof)
 
   -- ---- A WHOLE TEXT, in any chunks, finished once as end of file
   pub whole : (cs : List (List ℕ)) (xs : List Piece) → Reading o (flatten (withoutBomFirst cs)) xs →
-      scansChars p o fresh cs ++ finishChars (scansNext p o fresh cs) true ≡ cleaned p xs
+      scansChars p o fresh cs ++ finishChars (scansNext p o fresh cs) true ≡ cleaned p o xs
   unfolding flatten
-  whole [] xs read = section-step true true 0x0A 0 [] [] true 0 (comes-none fresh) xs read true ∙ whole-is p xs
+  whole [] xs read = section-step true true 0x0A 0 [] [] true 0 (comes-none fresh) xs read true ∙ whole-is p o xs
   whole (c ∷ cs) xs read =
       section-step true true 0x0A 0 (c ∷ cs) (withoutBom c ++ flatten cs) false (0 + (length c + length (flatten cs)))
       (comes-first fresh refl c cs) xs read true
-      ∙ whole-is p xs
+      ∙ whole-is p o xs
 
   -- ---- A STREAM
   owed-on : (eof owed : Bool) → not (eof || not owed) ≡ not eof && owed
@@ -131,27 +131,27 @@ module _ (p : List ℕ) (good : accepted p ≡ true) (o : Options) where
   stream-step : (b a : Bool) (n k : ℕ) (cs : List (List ℕ)) (t : List ℕ) (start : Bool) (count : ℕ) →
       Comes (ready b a n k) cs t start count → (xs : List Piece) → Reading o t xs → (eof : Bool) →
       (ss us : List Section) (xss : List (List Piece)) →
-      ((line : Bool) (last : ℕ) → streamChars p o (ready line start last count) ss ≡ streamOf p last (not line) us xss) →
+      ((line : Bool) (last : ℕ) → streamChars p o (ready line start last count) ss ≡ streamOf p o last (not line) us xss) →
       (ts : List (List ℕ)) →
       streamChars p o (ready b a n k) (record { chunks = cs; eof = eof } ∷ ss)
-      ≡ streamOf p n (not b) (record { chunks = ts; eof = eof } ∷ us) (xs ∷ xss)
+      ≡ streamOf p o n (not b) (record { chunks = ts; eof = eof } ∷ us) (xs ∷ xss)
   unfolding streamChars streamOf
   stream-step b a n k cs t start count h xs read eof ss us xss rest ts =
       let owed = owedAfter (not b) xs in
-      let last = lastOf n (sectionOf p n (not b) xs eof) in
+      let last = lastOf n (sectionOf p o n (not b) xs eof) in
       let r = ready b a n k in
       let after = scansNext p o r cs in
       sym (append-assoc (scansChars p o r cs) (finishChars after eof) (streamChars p o (finishNext after eof) ss))
       ∙ ap₂ (λ (u : List ℕ) (z : TextInput). u ++ streamChars p o z ss)
       (section-step b a n k cs t start count h xs read eof)
       (section-ready b a n k cs t start count h xs read eof)
-      ∙ ap (λ u. sectionOf p n (not b) xs eof ++ u) (
-      rest (eof || not owed) last ∙ ap (λ x. streamOf p last x us xss) (owed-on eof owed)
+      ∙ ap (λ u. sectionOf p o n (not b) xs eof ++ u) (
+      rest (eof || not owed) last ∙ ap (λ x. streamOf p o last x us xss) (owed-on eof owed)
       )
 
   -- from a record that has had a scan
   pub stream-from : (ss : List Section) (xss : List (List Piece)) → Readings o ss xss → (line : Bool) (last count : ℕ) →
-      streamChars p o (ready line false last count) ss ≡ streamOf p last (not line) ss xss
+      streamChars p o (ready line false last count) ss ≡ streamOf p o last (not line) ss xss
   stream-from [] xss read line last count = unfold streamChars streamOf in refl
   stream-from (s ∷ ss) [] read line last count = absurd read
   stream-from (s ∷ ss) (xs ∷ xss) read line last count =
@@ -163,11 +163,11 @@ module _ (p : List ℕ) (good : accepted p ≡ true) (o : Options) where
   -- from one that has had none: its first chunk may come after a finish
   start-by : (cs : List (List ℕ)) (eof : Bool) (ss : List Section) →
       ((xss : List (List Piece)) → Readings o (withoutBomStream ss) xss → (line : Bool) (last count : ℕ) →
-      streamChars p o (ready line true last count) ss ≡ streamOf p last (not line) (withoutBomStream ss) xss) →
+      streamChars p o (ready line true last count) ss ≡ streamOf p o last (not line) (withoutBomStream ss) xss) →
       (xss : List (List Piece)) → Readings o (withoutBomStream (record { chunks = cs; eof = eof } ∷ ss)) xss →
       (line : Bool) (last count : ℕ) →
       streamChars p o (ready line true last count) (record { chunks = cs; eof = eof } ∷ ss)
-      ≡ streamOf p last (not line) (withoutBomStream (record { chunks = cs; eof = eof } ∷ ss)) xss
+      ≡ streamOf p o last (not line) (withoutBomStream (record { chunks = cs; eof = eof } ∷ ss)) xss
   unfolding flatten
   start-by [] eof ss ih [] read line last count = absurd read
   start-by [] eof ss ih (xs ∷ xss) read line last count =
@@ -181,13 +181,13 @@ module _ (p : List ℕ) (good : accepted p ≡ true) (o : Options) where
       ss ss xss (λ line last. stream-from ss xss (read .1) line last k) (withoutBom c ∷ cs)
 
   pub stream-start : (ss : List Section) (xss : List (List Piece)) → Readings o (withoutBomStream ss) xss → (line : Bool) (last count : ℕ) →
-      streamChars p o (ready line true last count) ss ≡ streamOf p last (not line) (withoutBomStream ss) xss
+      streamChars p o (ready line true last count) ss ≡ streamOf p o last (not line) (withoutBomStream ss) xss
   stream-start [] xss read line last count = unfold streamChars streamOf in refl
   stream-start (s ∷ ss) xss read line last count =
       start-by (s .chunks) (s .eof) ss (λ yss g. stream-start ss yss g) xss read line last count
 
   pub stream : (ss : List Section) (xss : List (List Piece)) → Readings o (withoutBomStream ss) xss →
-      streamChars p o fresh ss ≡ streamOf p 0x0A false (withoutBomStream ss) xss
+      streamChars p o fresh ss ≡ streamOf p o 0x0A false (withoutBomStream ss) xss
   stream ss xss read = stream-start ss xss read true 0x0A 0
 
 -- ---- THE COUNT: the characters of all chunks, on every page and record

@@ -82,7 +82,7 @@ module _ (p : List ℕ) (o : Options) where
   keep-by r c s k false e =
       let x = steady-is r s in
       let y = k e in
-      simp (leave-ground (r .state) c (x .0), x .1, meet-other c (y .other) o, y .same, e)
+      simp (leave-ground (r .state) c (x .0), x .1, meet-other c (y .other) o, y .same (o .«units_compatibility»), e)
 
   pub keep-step : (r : TextInput) (c : ℕ) → steady r ≡ true → Kept c → Keeping r c
   keep-step r c s k = keep-by r c s k (eqb c 0x0A) refl

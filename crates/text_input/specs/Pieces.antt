@@ -107,20 +107,21 @@ unfoldable pub pageImage : List ℕ → List ℕ
 pageImage [] = 0x20 ∷ []
 pageImage (d ∷ rest) = cond (crOrLf d) [] (0x20 ∷ [])
 
--- a piece's, by its kind, its characters and what follows: a line end's is 0A, an escape's empty, any other character's "its
+-- a piece's, by the options, its kind, its characters and what follows: a line end's is 0A, an escape's empty, any other character's "its
 -- replacement"
 -- "Image 0A." "Escape, image empty" "Any other character: its replacement."
-unfoldable pub pieceImage : Kind → List ℕ → List ℕ → List ℕ
-pieceImage lineEnd w rest = 0x0A ∷ []
-pieceImage pageRun w rest = pageImage rest
-pieceImage escape w rest = []
-pieceImage other [] rest = []
-pieceImage other (c ∷ q) rest = chars (replaceOf c)
+-- "Everything that uses replacement takes the option."
+unfoldable pub pieceImage : Options → Kind → List ℕ → List ℕ → List ℕ
+pieceImage o lineEnd w rest = 0x0A ∷ []
+pieceImage o pageRun w rest = pageImage rest
+pieceImage o escape w rest = []
+pieceImage o other [] rest = []
+pieceImage o other (c ∷ q) rest = chars (replaceOf (o .«units_compatibility») c)
 
 -- "The text's image joins theirs in order."
-unfoldable pub image : List Piece → List ℕ
-image [] = []
-image (x ∷ xs) = pieceImage (x .kind) (x .text) (join xs) ++ image xs
+unfoldable pub image : Options → List Piece → List ℕ
+image o [] = []
+image o (x ∷ xs) = pieceImage o (x .kind) (x .text) (join xs) ++ image o xs
 
 -- ---- the additions, "for a whole text finished once, as end of file"
 -- "If the first image character is no start, 34F goes before it." "An empty image gets no 34F."
@@ -147,7 +148,7 @@ lastNewline [] = []
 lastNewline (x ∷ []) = cond (isLine (x .kind)) [] (0x0A ∷ [])
 lastNewline (x ∷ y ∷ xs) = lastNewline (y ∷ xs)
 
--- the cleaned text of a reading, by the page p: its image "after these additions"
+-- the cleaned text of a reading, by the page p and the options o: its image "after these additions"
 -- "These must not pass: a scan that passes the chunk through uncleaned (demand 3)"
-unfoldable pub cleaned : List ℕ → List Piece → List ℕ
-cleaned p xs = startMark p (image xs) ++ (image xs ++ (endMark (image xs) ++ lastNewline xs))
+unfoldable pub cleaned : List ℕ → Options → List Piece → List ℕ
+cleaned p o xs = startMark p (image o xs) ++ (image o xs ++ (endMark (image o xs) ++ lastNewline xs))

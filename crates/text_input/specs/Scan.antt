@@ -26,6 +26,10 @@ use Rattle.text_input.specs.Step.{scanStepOf, outChars}
 abbrev pub fresh : TextInput
 fresh = record { state = Ground true; «expect_starter» = true; «at_start» = true; last = 0x0A; count = 0 }
 
+-- each option off, as `TextInput::new` has those of the Rust
+abbrev pub allOff : Options
+allOff = record { «nel_compatibility» = false; «lsps_compatibility» = false; «units_compatibility» = false }
+
 -- ---- a run of characters from a record
 -- what it comes to: the characters that it appends, and the record after it
 pub record Effect : Type 0 where

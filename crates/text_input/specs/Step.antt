@@ -8,6 +8,7 @@ use Prim.Native.Nat.{ℕ}
 use mathlib.Core.Bool.{Bool, true, false, cond}
 use mathlib.Core.List.{List, _++_}
 use lib.Dec.{eqb}
+use Rattle.replace.specs.declared.Replaced.{Replaced}
 use Rattle.replace.specs.declared.Replaced.the-variants.{One}
 use Rattle.replace.specs.Replace.{replaceOf}
 use Rattle.text_input.specs.declared.State.{State}
@@ -81,14 +82,18 @@ madeOf r lead image state expect =
       };
     }
 
+-- what replaces c: "Everything that uses replacement takes the option."
+abbrev pub replacedBy : Options → ℕ → Replaced
+replacedBy o c = replaceOf (o .«units_compatibility») c
+
 -- `State::Ground`, after a lead
-abbrev pub metOf : List ℕ → TextInput → ℕ → Lead → Bool → Met → Step
-metOf p r c lead expect Line = madeOf r lead (Chars (One 0x0A)) (Ground true) false
-metOf p r c lead expect (Opens s) = madeOf r lead Empty s expect
-metOf p r c lead expect Other = madeOf r (guardOf p lead expect (replaceOf c)) (Chars (replaceOf c)) (Ground false) false
+abbrev pub metOf : List ℕ → Options → TextInput → ℕ → Lead → Bool → Met → Step
+metOf p o r c lead expect Line = madeOf r lead (Chars (One 0x0A)) (Ground true) false
+metOf p o r c lead expect (Opens s) = madeOf r lead Empty s expect
+metOf p o r c lead expect Other = madeOf r (guardOf p lead expect (replacedBy o c)) (Chars (replacedBy o c)) (Ground false) false
 
 abbrev pub groundOf : List ℕ → Options → TextInput → ℕ → Lead → Bool → Step
-groundOf p o r c lead expect = metOf p r c lead expect (meetOf o c)
+groundOf p o r c lead expect = metOf p o r c lead expect (meetOf o c)
 
 abbrev pub leftOf : List ℕ → Options → TextInput → ℕ → Left → Step
 leftOf p o r c (Part s) = madeOf r Nothing Empty s (r .«expect_starter»)

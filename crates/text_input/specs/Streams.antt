@@ -84,15 +84,15 @@ owedAfter owed (x ∷ xs) = owedAfter (not (isLine (x .kind))) xs
 
 -- a section's part of the queue: its image with 34F before a first character that is no start; then what the finish adds: "If the
 -- last character ever appended is no end, 34F follows.", and 0A where it is owed, "As end of file": "A push adds no 0A."
-unfoldable pub sectionOf : List ℕ → ℕ → Bool → List Piece → Bool → List ℕ
-sectionOf p last owed xs eof =
-    startMark p (image xs)
-    ++ (image xs ++ (cond (basicTextEnd (lastOf last (image xs))) [] (0x34F ∷ []) ++ cond (eof && owedAfter owed xs) (0x0A ∷ []) []))
+unfoldable pub sectionOf : List ℕ → Options → ℕ → Bool → List Piece → Bool → List ℕ
+sectionOf p o last owed xs eof =
+    startMark p (image o xs)
+    ++ (image o xs ++ (cond (basicTextEnd (lastOf last (image o xs))) [] (0x34F ∷ []) ++ cond (eof && owedAfter owed xs) (0x0A ∷ []) []))
 
 -- the queue, section by section: the last character and an owed 0A go over a push, and an end of file leaves none owed
-unfoldable pub streamOf : List ℕ → ℕ → Bool → List Section → List (List Piece) → List ℕ
-streamOf p last owed [] xss = []
-streamOf p last owed (s ∷ ss) [] = []
-streamOf p last owed (s ∷ ss) (xs ∷ xss) =
-    sectionOf p last owed xs (s .eof)
-    ++ streamOf p (lastOf last (sectionOf p last owed xs (s .eof))) (not (s .eof) && owedAfter owed xs) ss xss
+unfoldable pub streamOf : List ℕ → Options → ℕ → Bool → List Section → List (List Piece) → List ℕ
+streamOf p o last owed [] xss = []
+streamOf p o last owed (s ∷ ss) [] = []
+streamOf p o last owed (s ∷ ss) (xs ∷ xss) =
+    sectionOf p o last owed xs (s .eof)
+    ++ streamOf p o (lastOf last (sectionOf p o last owed xs (s .eof))) (not (s .eof) && owedAfter owed xs) ss xss

@@ -37,7 +37,7 @@ ghost use Rattle.stretch.specs.Plain.{Gap};
 ghost use Rattle.text_input_parts.specs.Appended.{storedIf, limitOf};
 ghost use Rattle.text_input_parts.specs.Refusals.{maxCount};
 ghost use Rattle.text_input.specs.Step.{scanStepOf, outChars};
-ghost use Rattle.text_input.specs.Scan.{fresh, stepEffect, runOf, skipped, opened, outcome, scanOf, pendingOf, afterLine, finishChars, finishNext, finishOf};
+ghost use Rattle.text_input.specs.Scan.{fresh, allOff, stepEffect, runOf, skipped, opened, outcome, scanOf, pendingOf, afterLine, finishChars, finishNext, finishOf};
 ghost use Rattle.text_input.specs.Inner.{outs, grounded, steady, passedBy, ranBy, Moves, endingChars};
 
 // What the characters so far leave open. `Ground`: nothing; its flag is true after a newline, and before the first character.
@@ -59,10 +59,25 @@ pub enum State {
     Linux,
 }
 
-// Which characters end a line beside 0A and 0D: 85; 2028 and 2029.
+// Which characters end a line beside 0A and 0D: 85; 2028 and 2029. And "a scanner option under which replacement turns U+2126 into
+// U+03A9, U+212A into U+004B and U+212B into U+00C5".
 pub struct Options {
     pub nel_compatibility: bool,
     pub lsps_compatibility: bool,
+    pub units_compatibility: bool,
+}
+
+impl Options {
+    // Each of them off.
+    pub fn default() -> Self
+        ensures { λ r. ⌜ r ≡ allOff ⌝ }
+    {
+        Self {
+            nel_compatibility: false,
+            lsps_compatibility: false,
+            units_compatibility: false,
+        }
+    }
 }
 
 // The scanner's record. The options, which the Rust keeps here, come with each call.

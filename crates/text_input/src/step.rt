@@ -5,7 +5,7 @@ use super::Options;
 use super::State;
 use super::TextInput;
 use replace::Replaced;
-use replace::replace;
+use replace::replace_by;
 use text_input_parts::queue::Image;
 use text_input_parts::queue::Lead;
 use text_input_parts::queue::guard;
@@ -198,7 +198,7 @@ impl TextInput {
             ),
             Met::Opens(state) => self.made(lead, Image::Empty, state, expect),
             Met::Other => {
-                let image = replace(c);
+                let image = replace_by(options.units_compatibility, c);
                 let guarded = guard(page, lead, expect, image);
                 self.made(guarded, Image::Chars(image), State::Ground(false), false)
             }

@@ -1,8 +1,9 @@
 -- Lists of calls on a fresh scanner with the answers of the comparison's oracle, which is the original Rust with what the documents add:
--- the definitions give the same, by computing both. By the page 0 1 0 377, with both options off. Characters are hexadecimal.
---     prices    asking, and committing into as many places, one fewer and more
+-- the definitions give the same, by computing both. Characters are hexadecimal.
+--     prices            asking, and committing into as many places, one fewer and more; by the page 0 1 0 377, with all options off
+--     prices-by-units   the same by a page by which the option for units changes the number
 use Prim.Native.Nat.{ℕ}
-use mathlib.Core.Bool.{false}
+use mathlib.Core.Bool.{Bool, true, false}
 use mathlib.Core.List.{List, [], _∷_, map}
 use mathlib.Core.Path.{_≡_, refl}
 use lib.ListN.{replicate}
@@ -36,8 +37,11 @@ row acts expected = record { acts = acts; expected = expected }
 abbrev page : List ℕ
 page = 0 ∷ 1 ∷ 0 ∷ 0x377 ∷ []
 
+abbrev optionsBy : Bool → Options
+optionsBy units = record { «nel_compatibility» = false; «lsps_compatibility» = false; «units_compatibility» = units }
+
 abbrev options : Options
-options = record { «nel_compatibility» = false; «lsps_compatibility» = false }
+options = optionsBy false
 
 -- ---- what a row's calls give
 abbrev committed : TextInput → ℕ → List ℕ → Outcome
@@ -84,3 +88,22 @@ pub prices : map (λ (x : Row). given fresh (x .acts)) table ≡ map (λ (x : Ro
 unfolding table askOf commitOf chunkRefusal refusalOf scanStepOf leaveOf meetOf parameter final newlineChar optionalLine replaceOf isChar
     basicTextStart starter graphemeExtendNotCgj spacingMarkPlus accepted sized rising nonstarter assigned member rises
 prices = refl
+
+-- 3A9 is a nonstarter here, so that 34F goes before it
+abbrev other-page : List ℕ
+other-page = 1 ∷ 1 ∷ 0x3A9 ∷ 0 ∷ 0x3A9 ∷ 0x377 ∷ []
+
+abbrev asked : Bool → List ℕ
+asked units = askOf fresh other-page (optionsBy units) (0x2126 ∷ [])
+
+abbrev taken : Bool → ℕ → List ℕ
+taken units room =
+    let o = commitOf fresh other-page (optionsBy units) (0x2126 ∷ []) (replicate room 0xEEEEEEEE) in refusalIn (o .numbers) ∷ wroteIn (o .numbers) (o .places)
+
+-- "Everything that uses replacement takes the option."
+pub prices-by-units :
+    asked true ∷ taken true 1 ∷ taken true 2 ∷ asked false ∷ taken false 1 ∷ []
+    ≡ (0 ∷ 2 ∷ []) ∷ (8 ∷ []) ∷ (0 ∷ 0x34F ∷ 0x3A9 ∷ []) ∷ (0 ∷ 1 ∷ []) ∷ (0 ∷ 0x2126 ∷ []) ∷ []
+unfolding askOf commitOf chunkRefusal refusalOf scanStepOf leaveOf meetOf optionalLine replaceOf isChar
+    basicTextStart starter graphemeExtendNotCgj spacingMarkPlus accepted sized rising nonstarter assigned member rises
+prices-by-units = refl

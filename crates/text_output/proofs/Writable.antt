@@ -36,12 +36,12 @@ accepted-of true k e h g = h
 accepted-of false true e h g = never g
 accepted-of false false e h g = h
 
-pub writable-of : (w : List ℕ) → all clean w ≡ true → all (λ x. not (inSpans excepted x)) w ≡ true → all writable w ≡ true
-writable-of [] h g = refl
-writable-of (x ∷ w) h g =
-    let a = both-true (clean x) (all clean w) h in
-    let b = both-true (not (inSpans excepted x)) (all (λ y. not (inSpans excepted y)) w) g in
-    both (accepted-of (eqb (reasonOf x) 0) (inSpans excepted x) (not (eqb x 0x1B)) (a .0) (b .0)) (writable-of w (a .1) (b .1))
+pub writable-of : (units : Bool) (w : List ℕ) → all (clean units) w ≡ true → all (λ x. not (inSpans (excepted units) x)) w ≡ true → all writable w ≡ true
+writable-of units [] h g = refl
+writable-of units (x ∷ w) h g =
+    let a = both-true (clean units x) (all (clean units) w) h in
+    let b = both-true (not (inSpans (excepted units) x)) (all (λ y. not (inSpans (excepted units) y)) w) g in
+    both (accepted-of (eqb (reasonOf x) 0) (inSpans (excepted units) x) (not (eqb x 0x1B)) (a .0) (b .0)) (writable-of units w (a .1) (b .1))
 
 writable-joiner : writable 0x34F ≡ true
 writable-joiner = rw accepted-joiner

@@ -17,9 +17,9 @@ const LASTS: [u32; 9] = [0x0A, 0x61, 0x301, 0x200D, 0x600, 0xD800, 0x110000, 0x0
 const COUNTS: [u32; 4] = [0, 1, 0xFFFF_FFFD, 0xFFFF_FFFF];
 
 /// All settings, and bits without a meaning.
-const OPTIONS: [u32; 6] = [0, 1, 2, 3, 4, 0xFFFF_FFFC];
+const OPTIONS: [u32; 10] = [0, 1, 2, 3, 4, 5, 6, 7, 8, 0xFFFF_FFF8];
 
-const CHUNKS: [&[u32]; 12] = [
+const CHUNKS: [&[u32]; 13] = [
     &[],
     &[0x0A],
     &[0x0C],
@@ -30,6 +30,7 @@ const CHUNKS: [&[u32]; 12] = [
     &[0x301],
     &[0xFEFF],
     &[0x85, 0x2028],
+    &[0x2126, 0x212B],
     &[0x07, 0x200D],
     &[0x61, 0xD800],
 ];
@@ -38,7 +39,7 @@ const CHUNKS: [&[u32]; 12] = [
 const ROOMS: [usize; 7] = [0, 3, 4, 7, 8, 11, 12];
 
 pub fn every_record(sides: &mut Sides) -> Result<(), String> {
-    sides.take_page(bytes(&[1, 1, 0x300, 0, 0x301, 0x377]));
+    sides.take_page(bytes(&[2, 1, 0x300, 0x3A9, 0, 0x301, 0x3A9, 0x377]));
     for state in STATES {
         for expect_starter in FLAGS {
             for at_start in FLAGS {

@@ -80,7 +80,7 @@ fn scan(sides: &mut Sides, random: &mut Random, record: Record) -> Outcome {
     let chunk = if random.once_in(50) { alphabet::run(random, LONG) } else { chunk(random) };
     let count = count(random, record.count, chunk.len() as u32);
     let room = 4 * alphabet::room(random, needed(&chunk)) as usize + odd(random);
-    let call = Call::Scan(random.between(0, 3), &chunk, &[0x0A, 0x0D, 0xD8][..odd(random)]);
+    let call = Call::Scan(random.between(0, 7), &chunk, &[0x0A, 0x0D, 0xD8][..odd(random)]);
     sides.call(Record { count, ..record }, call, room)
 }
 

@@ -95,7 +95,7 @@ mod linked {
     }
 }
 
-/// Options: 1 NEL, 2 LS/PS (added).
+/// Options: 1 NEL, 2 LS/PS, 4 units (added). Other bits have no meaning.
 pub fn scan(record: Record, page: &[u8], options: u32, chunk: &[u8], queue: &mut [u8]) -> Reply {
     unsafe {
         linked::basic_text_scan(

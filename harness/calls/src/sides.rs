@@ -4,7 +4,7 @@
 use crate::ours::{self, Record, Reply};
 use harness::page::Page;
 use harness::properties;
-use harness::text_input::scanner::{self, Scanner};
+use harness::text_input::scanner::{self, Options, Scanner};
 use harness::words::list;
 
 /// The queue has at most so many bytes.
@@ -114,7 +114,7 @@ impl Sides {
         let places = room / 4;
         let answer = match call {
             Call::Scan(options, characters, _) => {
-                self.oracle.scan(self.page.accepted, options & 1 != 0, options & 2 != 0, places, characters)
+                self.oracle.scan(self.page.accepted, Options::of(options), places, characters)
             }
             Call::Finish(end_of_file) => self.oracle.finish(end_of_file != 0, places),
         };

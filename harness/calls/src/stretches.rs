@@ -55,7 +55,7 @@ pub fn every_place(sides: &mut Sides, step: Step) -> Result<(), String> {
             for record in RECORDS {
                 if taken() {
                     let chunk = with(text, at, awkward);
-                    let options = (text.len() + at) as u32 % 4;
+                    let options = (text.len() + at) as u32 % 8;
                     sides.call(record, Call::Scan(options, &chunk, &[]), 4 * needed(&chunk))?;
                 }
             }
@@ -130,7 +130,7 @@ pub fn long_chunks(sides: &mut Sides, seed: u64, count: u64) -> Result<(), Strin
         }
         let chunk = thousands(random, &awkward, false);
         let room = 4 * alphabet::room(random, needed(&chunk)) as usize + odd(random);
-        record = sides.call(record, Call::Scan(random.between(0, 3), &chunk, &[]), room)?;
+        record = sides.call(record, Call::Scan(random.between(0, 7), &chunk, &[]), room)?;
     }
     Ok(())
 }

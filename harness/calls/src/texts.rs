@@ -6,7 +6,7 @@ use harness::page::LAST_CHARACTER;
 use harness::text_input::scanner::needed;
 
 /// The characters that the scanner tells apart, one for each way in which it treats them.
-const CHARACTERS: [u32; 18] = [
+const CHARACTERS: [u32; 19] = [
     0x07,   // ends an OSC string; else replaced
     0x0A,   // a line end, and the second half of one
     0x0C,   // a page run
@@ -23,12 +23,13 @@ const CHARACTERS: [u32; 18] = [
     0x600,  // a start, and no end
     0x200D, // no start and no end
     0x2028, // a line end by the option LS/PS; else replaced
+    0x212B, // replaced by the option for units, by what is no start by the page
     0xFB03, // gives three characters
     0xFEFF, // dropped at the start; else replaced
 ];
 
-/// E9 is a nonstarter.
-const TEXTS_PAGE: [u32; 6] = [1, 1, 0xE9, 0, 0xE9, 0x377];
+/// C5 and E9 are nonstarters.
+const TEXTS_PAGE: [u32; 8] = [2, 1, 0xC5, 0xE9, 0, 0xC5, 0xE9, 0x377];
 
 /// The longest text has at most so many characters.
 const LONGEST: usize = 5;
@@ -37,7 +38,7 @@ const LONGEST: usize = 5;
 /// empty chunk; all of up to `pushed` with and without pushes between their chunks.
 pub fn every_text(sides: &mut Sides, longest: usize, pushed: usize) -> Result<(), String> {
     sides.take_page(bytes(&TEXTS_PAGE));
-    for options in 0..4 {
+    for options in 0..8 {
         let mut walk = Walk { sides, options, pushes: false };
         walk.from(Record::FRESH, longest)?;
         let spent = walk.scan(Record::FRESH, &[])?;
@@ -97,7 +98,7 @@ pub fn every_state(sides: &mut Sides, characters: &[u32]) -> Result<(), String> 
         for flags in 0..4 {
             let record = Record { state, expect_starter: flags & 1, at_start: flags >> 1, ..Record::FRESH };
             for c in characters {
-                for options in 0..4 {
+                for options in 0..8 {
                     sides.call(record, Call::Scan(options, &[*c], &[]), 4 * 4)?;
                 }
                 for end_of_file in 0..2 {
@@ -116,6 +117,7 @@ pub fn characters() -> Vec<u32> {
 
 /// The characters around all that the scanner asks for, and some of the replaced ones.
 pub fn bounds() -> Vec<u32> {
-    let around = [0..0x400, 0x600..0x606, 0x2000..0x2070, 0xFAFF..0xFB07, 0xFEF0..0xFF01, 0xFFF0..0x10000];
-    around.into_iter().flatten().chain([0x2126, 0x10FFFE, 0x10FFFF]).collect()
+    let around =
+        [0..0x400, 0x600..0x606, 0x2000..0x2070, 0x2125..0x212D, 0xFAFF..0xFB07, 0xFEF0..0xFF01, 0xFFF0..0x10000];
+    around.into_iter().flatten().chain([0x10FFFE, 0x10FFFF]).collect()
 }

@@ -5,6 +5,7 @@
 //! operations, and where an operation or a refusal that the kind must have was not met.
 
 use harness::scripts::lent::lent;
+use harness::scripts::signs::has_units;
 use harness::scripts::write::Known;
 use harness::scripts::{KINDS, LONG};
 use harness::words::{is_operation, numbered};
@@ -187,11 +188,13 @@ fn name(operation: &str) -> &str {
     operation.match_indices(' ').nth(words - 1).map_or(operation, |(end, _)| &operation[..end])
 }
 
-/// The same with what a kind asks for of the answer: a page that is wrong; of a check `yes`, or the kind of the fault.
+/// The same with what a kind asks for beside it: a page that is wrong; of a check of a run `yes`, or the kind of the fault; A.5's
+/// option.
 fn full_name<'a>(operation: &'a str, answer: &str) -> Cow<'a, str> {
     match (name(operation), answer.rsplit(' ').next()) {
         ("P", Some("0")) => "P wrong".into(),
         (name @ "A check", Some(word)) if refusal(answer).is_none() => format!("{name} {word}").into(),
+        (name, _) if has_units(operation) => format!("{name} units").into(),
         (name, _) => name.into(),
     }
 }

@@ -1,25 +1,19 @@
 //! The Rust pipeline with its adapters removed: bytes from standard input, lossy UTF-8, the original's scanner, its queue
 //! to standard output as UTF-8.
 //!
-//!     pipeline [--nel] [--lsps]            reads by blocks, and decodes each by `str::from_utf8`
-//!     pipeline --whole [--nel] [--lsps]    reads all, and decodes it by `String::from_utf8_lossy`
-//!     pipeline --lines [--nel] [--lsps]    each line, up to its 0A, is a text of its own, decoded by `String::from_utf8_lossy`
+//!     pipeline [--nel] [--lsps] [--units]            reads by blocks, and decodes each by `str::from_utf8`
+//!     pipeline --whole [--nel] [--lsps] [--units]    reads all, and decodes it by `String::from_utf8_lossy`
+//!     pipeline --lines [--nel] [--lsps] [--units]    each line, up to its 0A, is a text of its own, decoded by
+//!                                                    `String::from_utf8_lossy`
 
 use harness::properties;
-use harness::text_input::scanner::Scanner;
+use harness::text_input::scanner::{Options, Scanner};
 use std::io::{self, BufRead, BufReader, BufWriter, Read, Write};
 use std::process::ExitCode;
 use std::str;
 
 /// How many bytes are read at once.
 const BLOCK: usize = 65536;
-
-/// The scanner's options.
-#[derive(Clone, Copy, Default)]
-struct Options {
-    nel: bool,
-    lsps: bool,
-}
 
 fn main() -> io::Result<ExitCode> {
     let mut options = Options::default();
@@ -28,10 +22,11 @@ fn main() -> io::Result<ExitCode> {
         match word.as_str() {
             "--nel" => options.nel = true,
             "--lsps" => options.lsps = true,
+            "--units" => options.units = true,
             "--whole" => clean = whole,
             "--lines" => clean = lines,
             _ => {
-                eprintln!("usage: pipeline [--whole | --lines] [--nel] [--lsps]");
+                eprintln!("usage: pipeline [--whole | --lines] [--nel] [--lsps] [--units]");
                 return Ok(ExitCode::from(2));
             }
         }
@@ -54,7 +49,7 @@ fn blocks(options: Options) -> io::Result<()> {
         let used = decode(&block[..end], count == 0, &mut part);
         block.copy_within(used..end, 0);
         held = end - used;
-        scanner.feed(options.nel, options.lsps, &mut part, &mut out);
+        scanner.feed(options, &mut part, &mut out);
         if count == 0 {
             scanner.end(&mut out);
             return output.write_all(out.as_bytes());
@@ -113,6 +108,6 @@ fn lines(options: Options) -> io::Result<()> {
 /// A text by itself, from a fresh scanner, finished as end of file.
 fn text(options: Options, bytes: &[u8], out: &mut String) {
     let mut scanner = Scanner::default();
-    scanner.feed(options.nel, options.lsps, &mut String::from_utf8_lossy(bytes).into_owned(), out);
+    scanner.feed(options, &mut String::from_utf8_lossy(bytes).into_owned(), out);
     scanner.end(out);
 }

@@ -1,12 +1,14 @@
 //! Holds answers to a script of the kind `demand` to demand 3: `promise SCRIPT ANSWERS`. The queue is the same for both cuts of
-//! the text. Where it holds none of the excepted characters, its one write hands out what isolation of the queue as one run gives,
-//! the close succeeds, and the check of the queue says yes; else the check says where the first of them is. Prints how many queues
-//! passed, of these how many where every call that succeeds is lent exactly what it needs, and how many such of thousands of
-//! characters; or the first that does not pass. A missing answer is a failure, and so is a script that has none of one of these, or
-//! no queue with an excepted character.
+//! the text. Where it holds none of the characters that are excepted with the stream's option of document 02, A.5, its one write hands
+//! out what isolation of the queue as one run gives, the close succeeds, and the check of the queue says yes; else the check says where
+//! the first of them is. Prints how many queues passed, of these how many where every call that succeeds is lent exactly what it needs,
+//! how many such of thousands of characters, and how many with that option on from a text with one of its signs; or the first that
+//! does not pass. A missing answer is a failure, and so is a script that has none of one of these, or no queue with an excepted
+//! character.
 
 use harness::leaves::is_excepted;
 use harness::scripts::lent::lent;
+use harness::scripts::signs::{has_option, has_units};
 use harness::scripts::LONG;
 use harness::words::{is_operation, listed, numbered};
 use std::fs::read_to_string;
@@ -32,10 +34,11 @@ fn main() -> io::Result<ExitCode> {
     }
     println!(
         "{} queues pass, {} of them with exactly the places that each call needs, {} of these of {LONG} characters or more; \
-         {} hold an excepted character",
-        seen.passed, seen.exact, seen.long, seen.excepted
+         {} of those that pass come, by A.5's option, from texts with its signs; {} hold an excepted character",
+        seen.passed, seen.exact, seen.long, seen.from_signs, seen.excepted
     );
-    Ok(ExitCode::from(u8::from(seen.exact == 0 || seen.long == 0 || seen.excepted == 0)))
+    let counts = [seen.exact, seen.long, seen.from_signs, seen.excepted];
+    Ok(ExitCode::from(u8::from(counts.contains(&0))))
 }
 
 /// What the calls on a queue answered; none before the call.
@@ -56,10 +59,14 @@ struct Seen {
     answers: Answers,
     /// Whether a call that succeeded was lent more than it needs.
     over: bool,
-    /// The queues that pass, those of them where none was, and those of these that are long.
+    /// Whether the calls of the cut have A.5's option on, and whether one that succeeded has a sign then.
+    units: bool,
+    signs: bool,
+    /// The queues that pass, those of them where none was, those of these that are long, and those that pass and had a sign.
     passed: usize,
     exact: usize,
     long: usize,
+    from_signs: usize,
     excepted: usize,
 }
 
@@ -70,8 +77,16 @@ impl Seen {
         let known = if words == ["S", "commit"] { numbered(answer).unwrap_or_default() } else { 0 };
         self.over |= answer.starts_with("ok") && lent(operation, known).is_some_and(|lent| lent.room > lent.needed);
         match words.as_slice() {
-            ["S", "new"] => self.other = std::mem::take(&mut self.queue),
-            ["S", _] => self.queue.extend(listed(answer)),
+            ["S", "new"] => {
+                self.other = std::mem::take(&mut self.queue);
+                self.signs = false;
+            }
+            ["S", "fin"] => self.queue.extend(listed(answer)),
+            ["S", _] => {
+                self.units = has_option(operation);
+                self.signs |= answer.starts_with("ok") && has_units(operation);
+                self.queue.extend(listed(answer));
+            }
             ["P", _] => self.answers = Answers::default(),
             ["W", "chars"] => self.answers.written = answer.to_owned(),
             ["W", "close"] => self.answers.closed = answer.to_owned(),
@@ -89,7 +104,7 @@ impl Seen {
         if self.queue != self.other {
             return Err("another cut gives another queue");
         }
-        if let Some(place) = self.queue.iter().position(|c| is_excepted(*c)) {
+        if let Some(place) = self.queue.iter().position(|c| is_excepted(self.units, *c)) {
             if self.answers.checked != format!("fault {place:x} char") {
                 return Err("the check of the queue does not say where an excepted character is");
             }
@@ -109,6 +124,7 @@ impl Seen {
         self.passed += 1;
         self.exact += usize::from(!over);
         self.long += usize::from(!over && self.queue.len() >= LONG);
+        self.from_signs += usize::from(self.signs);
         Ok(())
     }
 }

@@ -1,17 +1,18 @@
-//! The generated files of the crates `text_utils`, `replace`, `check_char` and `page_15`. The folders are those of the original's sources, of Unicode's
-//! data and of the crate `text_utils`, beside which the others stand.
+//! The generated files of the crates `text_utils`, `replace`, `check_char` and `page_15`. The folders are those of the original's sources,
+//! of Unicode's data and of the crate `text_utils`, beside which the others stand.
 //!
 //!     tables src SOURCES DATA CRATE      writes src/tables.rt
 //!     tables specs SOURCES DATA CRATE    writes specs/Tables.antt
 //!     tables breaks SOURCES DATA CRATE   writes specs/Breaks.antt
 //!     tables unicode SOURCES DATA CRATE  writes specs/Unicode.antt of the crate `check_char`, which stands beside it
 //!     tables replaced SOURCES DATA CRATE writes specs/Runs.antt of the crate `replace`
+//!     tables letters SOURCES DATA CRATE  writes specs/Decompositions.antt of the crate `replace`
 //!     tables reasons SOURCES DATA CRATE  writes specs/Runs.antt of the crate `check_char`
 //!     tables page SOURCES DATA CRATE     writes src/numbers.rt of the crate `page_15`
 //!     tables ranges SOURCES DATA CRATE   writes specs/Unicode.antt of the crate `page_15`
 //!     tables check SOURCES DATA CRATE    compares all with the crates' files, and the sources with each other, and tries the packing
 
-use harness::tables::{check, files, page, runs, unicode, ORIGINAL};
+use harness::tables::{check, decompositions, files, page, runs, unicode, ORIGINAL};
 use std::path::Path;
 use std::process::ExitCode;
 use std::{env, fs};
@@ -27,6 +28,7 @@ fn main() -> ExitCode {
         "breaks" => files::breaks(Path::new(data)),
         "unicode" => unicode::specs(Path::new(data)),
         "replaced" => Ok(runs::replaced()),
+        "letters" => decompositions::specs(Path::new(data)),
         "reasons" => Ok(runs::reasons()),
         "page" => Ok(page::src()),
         "ranges" => page::specs(Path::new(data)),
@@ -46,7 +48,7 @@ fn main() -> ExitCode {
 }
 
 fn usage() -> ExitCode {
-    eprintln!("usage: tables src|specs|breaks|unicode|replaced|reasons|page|ranges|check SOURCES DATA CRATE");
+    eprintln!("usage: tables src|specs|breaks|unicode|replaced|letters|reasons|page|ranges|check SOURCES DATA CRATE");
     ExitCode::from(2)
 }
 
@@ -55,8 +57,9 @@ fn check_all(sources: &str, data: &Path, package: &Path) -> Result<String, Strin
     let found = check::check(&original(sources)?, data, package)?;
     let crates = package.parent().ok_or("the crate is in no folder")?;
     let of_check_char = unicode::check(data, &crates.join("check_char"))?;
+    let of_replace = decompositions::check(data, &crates.join("replace"))?;
     let of_page = page::check(data, &crates.join("page_15"))?;
-    Ok(found + &of_check_char + &runs::check(crates)? + &of_page)
+    Ok(found + &of_check_char + &runs::check(crates)? + &of_replace + &of_page)
 }
 
 /// The text of the original's file.

@@ -8,11 +8,12 @@ use crate::random::Random;
 /// Values that are no characters, at the edges.
 pub const NO_CHARACTERS: [u32; 5] = [0xD800, 0xDFFF, 0x110000, 0x8000_0000, 0xFFFF_FFFF];
 
-/// Line ends, page runs, the parts of escapes, replaced and refused characters, nonstarters, marks, unassigned ones.
-const CHARACTERS: [u32; 44] = [
+/// Line ends, page runs, the parts of escapes, replaced and refused characters, nonstarters, marks, unassigned ones, the signs for
+/// units and their letters.
+const CHARACTERS: [u32; 49] = [
     0x61, 0x0A, 0x0D, 0x0C, 0x1B, 0x5B, 0x5D, 0x07, 0x18, 0x31, 0x6D, 0x48, 0x20, 0xE9, 0x301, 0x200D, 0xFB03, 0x2028,
     0x2029, 0x85, 0xFEFF, 0x2126, 0x378, 0x379, 0x34F, 0x600, 0x903, 0x1F3FB, 0x10FFFF, 0x7F, 0x40, 0x3F, 0x7E, 0x09,
-    0x1A, 0x00, 0x5C, 0x80, 0xE000, 0xFB05, 0x17B4, 0x206A, 0x111C4, 0xF900,
+    0x1A, 0x00, 0x5C, 0x80, 0xE000, 0xFB05, 0x17B4, 0x206A, 0x111C4, 0xF900, 0x212A, 0x212B, 0x3A9, 0x4B, 0xC5,
 ];
 
 /// One of the characters that matter; now and then any character.
@@ -57,7 +58,7 @@ pub fn long_length(random: &mut Random, most: usize) -> usize {
 
 /// A page: that of the start, one that is right, seldom one that is wrong or the real one.
 pub fn page(random: &mut Random) -> Vec<u32> {
-    match random.below(16) {
+    match random.below(20) {
         0 => vec![0, 0],
         1 => real_numbers(),
         2..=4 => vec![0, 1, 0, 0x377],
@@ -66,6 +67,9 @@ pub fn page(random: &mut Random) -> Vec<u32> {
         6 => vec![1, 1, 0x61, 0, 0x61, 0x377],
         7..=10 => vec![2, 1, 0x300, 0x370, 0, 0x34E, 0x3FF, 0x10FFFF],
         11 => vec![0, 2, 0x0A, 0x34F, 0x0A, 0x34F],
+        // The letters of the signs for units nonstarters, the signs unassigned; the other way round.
+        12 | 13 => vec![3, 1, 0x4B, 0xC5, 0x3A9, 0, 0x4B, 0xC5, 0x3A9, 0x2125],
+        14 | 15 => vec![1, 4, 0x2126, 0, 0x4C, 0xC6, 0x3AA, 0x212B, 0x4A, 0xC4, 0x3A8, 0x10FFFF],
         _ => {
             let (nonstarters, assigned) = pages::random_right(random);
             numbers(&nonstarters, &assigned)

@@ -1,5 +1,5 @@
-//! The cases that document 01 names for the leaves, the scanner and filling, its corners, those of asking and committing (document 02,
-//! A.4), and the original's own tests, as one fixed script. Each stands under its name.
+//! The cases that document 01 names for the leaves, the scanner and filling, its corners, those of asking and committing and of the signs
+//! for units (document 02, A.4 and A.5), and the original's own tests, as one fixed script. Each stands under its name.
 
 use super::operation;
 
@@ -7,7 +7,7 @@ use super::operation;
 pub type Case = (&'static str, &'static [&'static str]);
 
 pub fn script() -> Vec<String> {
-    let mut lines = under_names(&[&CHECKED[..], &RUN, &WRONG, &LEAVES, &SCANS, &TESTS].concat());
+    let mut lines = under_names(&[&CHECKED[..], &RUN, &WRONG, &LEAVES, &SCANS, &UNITS, &TESTS].concat());
     lines.extend(long_queues());
     lines
 }
@@ -220,6 +220,190 @@ const SCANS: [Case; 13] = [
             "S commit 0 0 61",
             "S ask 0",
             "S commit 0 0",
+            "S fin e 2",
+        ],
+    ),
+];
+
+/// The option of document 02, A.5.
+const UNITS: [Case; 11] = [
+    (
+        "ohm, kelvin and angstrom, the option off and on",
+        &[
+            "L replace 2126",
+            "L replace 2126 1",
+            "L replace 212a",
+            "L replace 212a 1",
+            "L replace 212b",
+            "L replace 212b 1",
+            "L check 2126",
+            "L check 2126 1",
+            "L check 212a",
+            "L check 212a 1",
+            "L check 212b",
+            "L check 212b 1",
+        ],
+    ),
+    (
+        "their neighbours, their letters and what else is replaced or refused",
+        &[
+            "L replace 2125 1",
+            "L replace 2127 1",
+            "L replace 2129 1",
+            "L replace 212c 1",
+            "L replace 3a9 1",
+            "L replace fb03 1",
+            "L replace f900 1",
+            "L replace 1 1",
+            "L replace d800 1",
+            "L check 2125 1",
+            "L check 212c 1",
+            "L check 3a9 1",
+            "L check 4b 1",
+            "L check c5 1",
+            "L check fb03 1",
+            "L check f900 1",
+            "L check 206a 1",
+            "L check 110000 1",
+        ],
+    ),
+    (
+        "scanned, the option off, on, and with the other two",
+        &[
+            "S new",
+            "S scan 0 a 2126 212a 212b",
+            "S scan 4 a 2126 212a 212b",
+            "S scan 3 10 85 2126 2028 212a 2029",
+            "S scan 7 10 85 2126 2028 212a 2029",
+            "S scan 5 a 85 212b 2028",
+            "S scan 6 a 85 212b 2028",
+            "S fin e 2",
+        ],
+    ),
+    (
+        "asked about and committed",
+        &[
+            "S new",
+            "S ask 0 2126 212a 212b",
+            "S ask 4 2126 212a 212b",
+            "S commit 4 2 2126 212a 212b",
+            "S commit 4 3 2126 212a 212b",
+            "S commit 0 3 2126 212a 212b",
+            "S fin e 2",
+        ],
+    ),
+    (
+        "a letter that the page has as a nonstarter",
+        &[
+            "P 3 1 4b c5 3a9 0 4b c5 3a9 377",
+            "S new",
+            "S ask 0 2126",
+            "S ask 4 2126",
+            "S commit 4 1 2126",
+            "S commit 4 2 2126",
+            "S new",
+            "S commit 0 1 2126",
+            "S new",
+            "S ask 4 212b",
+            "S scan 4 4 212b",
+            "S fin p 2",
+            "S scan 4 4 212b",
+            "S fin p 2",
+            "S ask 4 212a",
+            "S commit 4 1 212a",
+            "S fin e 2",
+            FIRST_PAGE,
+        ],
+    ),
+    (
+        "a sign that the page has as a nonstarter",
+        &[
+            "P 1 1 2126 0 212b 377",
+            "S new",
+            "S ask 0 2126",
+            "S ask 4 2126",
+            "S commit 0 1 2126",
+            "S commit 0 2 2126",
+            "S fin p 2",
+            "S commit 4 1 2126",
+            "S fin p 2",
+            "S scan 0 4 212a",
+            "S fin p 2",
+            "S scan 4 4 212a",
+            "S fin e 2",
+            FIRST_PAGE,
+        ],
+    ),
+    (
+        "after a refused call, FEFF, 0D and a page run",
+        &[
+            "S new",
+            "S scan 4 3 2126",
+            "S scan 4 4 d800",
+            "S scan 4 7 feff 2126",
+            "S scan 4 4 d",
+            "S commit 4 1 212a",
+            "S commit 4 2 212a",
+            "S scan 4 4 c",
+            "S ask 4 212b",
+            "S scan 4 4 212b",
+            "S fin e 2",
+        ],
+    ),
+    (
+        "in escapes",
+        &[
+            "S new",
+            "S scan 4 16 1b 5d 2126 212a 212b 7 2126",
+            "S scan 4 7 1b 5d",
+            "S scan 4 4 2126",
+            "S ask 4 212a 18 212b",
+            "S scan 4 a 212a 18 212b",
+            "S scan 4 7 1b 2126",
+            "S scan 4 a 1b 5b 2126",
+            "S scan 4 d 1b 5b 31 212a",
+            "S scan 4 d 1b 5b 5b 212b",
+            "S fin e 2",
+        ],
+    ),
+    (
+        "a compatibility ideograph stays",
+        &["S new", "S scan 4 7 2126 f900", "S fin e 2", "A check 3a9 f900 a", "A check 3a9 a", "A check 2126 a"],
+    ),
+    (
+        "a write refuses the signs by the same 4, whatever went before",
+        &[
+            "W new plain",
+            "W chars 3 2126",
+            "S new",
+            "S scan 4 4 2126",
+            "W chars 3 2126",
+            "L check 212a 1",
+            "W chars 3 212a",
+            "L replace 212b 1",
+            "W chars 6 61 212b",
+            "W bytes 6 e2 84 a6",
+            "W abandon",
+            "W chars c 3a9 4b c5 a",
+            "W close",
+        ],
+    ),
+    (
+        "the refusals of calls with the option",
+        &[
+            "S new",
+            "P 0 0",
+            "S scan 4 4 d800",
+            "S ask 4 d800",
+            "S commit 4 0 d800",
+            "L replace 2126 1",
+            "L check 2126 1",
+            FIRST_PAGE,
+            "S ask 4 d800",
+            "S count ffffffff",
+            "S ask 4 2126",
+            "S commit 4 0 2126",
+            "S scan 4 4 2126",
             "S fin e 2",
         ],
     ),

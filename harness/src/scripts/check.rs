@@ -114,7 +114,7 @@ impl Drawn {
             alphabet::run(random, 40)
         };
         let room = 3 * text.len() as u32 + 1;
-        let scan = operation("S scan", [random.between(0, 3), room].into_iter().chain(text));
+        let scan = operation("S scan", [random.between(0, 7), room].into_iter().chain(text));
         let answers = ["S new".to_owned(), scan, "S fin e 2".to_owned()].map(|line| self.oracle.answer(&line));
         answers.iter().flatten().flat_map(|answer| listed(answer)).collect()
     }

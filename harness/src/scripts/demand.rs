@@ -29,7 +29,8 @@ pub fn script(random: &mut Random, count: usize) -> Vec<String> {
 /// A text from the scanner to the writer; none if its queue is too long for one write.
 fn passage(random: &mut Random, talk: &mut Talk) -> Option<()> {
     let page = right_page(random);
-    let (text, options) = (text(random), random.between(0, 3));
+    let options = random.between(0, 7);
+    let text = text(random, options & 4 != 0);
     let most_over = if random.once_in(3) { 40 } else { 0 };
     talk.say(page_line(&page));
     let queue = taken(random, talk, &page, options, &text, most_over);
@@ -58,15 +59,15 @@ fn right_page(random: &mut Random) -> Vec<u32> {
     }
 }
 
-/// Mostly short, and mostly without the characters whose queue the writer refuses.
-fn text(random: &mut Random) -> Vec<u32> {
+/// Mostly short, and mostly without the characters whose queue the writer refuses: with A.5's option the signs for units stay.
+fn text(random: &mut Random, units: bool) -> Vec<u32> {
     let mut text = if random.once_in(5) {
         alphabet::long(random, LONGEST, alphabet::character)
     } else {
         (0..random.below(40)).map(|_| alphabet::character(random)).collect()
     };
     if !random.once_in(8) {
-        text.retain(|c| !is_excepted(*c));
+        text.retain(|c| !is_excepted(units, *c));
     }
     text
 }

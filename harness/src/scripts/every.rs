@@ -1,6 +1,6 @@
-//! The entries on one character, for every character, with the real page, and the check of two runs of two, in which it is the
-//! first and the last; then the start class with made-up pages. With a larger step it is one character in so many, and the seed
-//! shifts them. Values that are no characters follow, whatever the step.
+//! The entries on one character, for every character, with the real page, replacement and the check with both settings of A.5's
+//! option, and the check of two runs of two, in which it is the first and the last; then the start class with made-up pages. With a
+//! larger step it is one character in so many, and the seed shifts them. Values that are no characters follow, whatever the step.
 
 use super::{operation, real_page_line};
 use crate::page::LAST_CHARACTER;
@@ -10,6 +10,9 @@ const MADE_UP: [&str; 3] =
     ["P 1 1 61 0 61 377", "P 2 1 300 370 0 34e 3ff 10ffff", "P 4 1 0 b 21 350 0 9 1f 34e 10ffff 10ffff"];
 
 const ENTRIES: [&str; 4] = ["L replace", "L check", "L end", "L start"];
+
+/// Those that take the option.
+const WITH_UNITS: [&str; 2] = ["L replace", "L check"];
 
 /// The edges of the surrogates, what follows the last character, numbers whose low bits are a character that is replaced
 /// or no start, and the largest numbers.
@@ -21,8 +24,10 @@ const NO_CHARACTERS: [u32; 24] = [
 
 pub fn script(seed: u64, step: usize) -> impl Iterator<Item = String> {
     let alone = |value: u32| ENTRIES.map(|entry| operation(entry, [value]));
+    let with_units = |value: u32| WITH_UNITS.map(|entry| operation(entry, [value, 1]));
     let in_runs = |value: u32| [[value, 0x0A], [0x61, value]].map(|run| operation("A check", run));
-    let all = values(seed, step).flat_map(move |value| alone(value).into_iter().chain(in_runs(value)));
+    let all = values(seed, step)
+        .flat_map(move |value| alone(value).into_iter().chain(with_units(value)).chain(in_runs(value)));
     let starts = MADE_UP.into_iter().flat_map(move |page| {
         std::iter::once(page.to_owned()).chain(values(seed, step).map(|value| operation("L start", [value])))
     });

@@ -1,4 +1,5 @@
-//! The entries on one character, at every place where an answer changes from one character to the next.
+//! The entries on one character, at every place where an answer changes from one character to the next; replacement and the check with
+//! A.5's option on and off.
 
 use super::{alphabet, operation, page_line};
 use crate::leaves::{check, end, replacement, start};
@@ -9,13 +10,20 @@ use crate::random::Random;
 /// Places where an answer changes, values that are no characters, and pages between them.
 pub fn script(random: &mut Random, count: usize) -> Vec<String> {
     properties::answer_from(None);
-    let conversions = edges(|value| (replaced(value), check(value).ok().flatten().map(|reason| reason.place)));
+    let conversions = edges(|value| {
+        let reason = check(true, value).ok().flatten().map(|reason| reason.place);
+        (replaced(false, value), replaced(true, value), reason)
+    });
     let classes = edges(|value| (start(true, value), end(value)));
     let mut lines = Vec::new();
     while lines.len() < count {
         lines.push(match random.below(61) {
             0 => page_line(&alphabet::page(random)),
-            at if at % 2 == 0 => operation(random.pick(&["L replace", "L check"]), [value(random, &conversions)]),
+            at if at % 2 == 0 => {
+                let entry = random.pick(&["L replace", "L check"]);
+                let units = random.once_in(2).then_some(1);
+                operation(entry, std::iter::once(value(random, &conversions)).chain(units))
+            }
             _ => operation(random.pick(&["L start", "L end"]), [value(random, &classes)]),
         });
     }
@@ -47,6 +55,6 @@ fn edges<T: PartialEq>(answer: impl Fn(u32) -> T) -> Vec<u32> {
 }
 
 /// What a character is replaced by, if by something else.
-fn replaced(value: u32) -> Option<Vec<char>> {
-    replacement(value).ok().filter(|out| out.iter().map(|c| u32::from(*c)).ne([value]))
+fn replaced(units: bool, value: u32) -> Option<Vec<char>> {
+    replacement(units, value).ok().filter(|out| out.iter().map(|c| u32::from(*c)).ne([value]))
 }

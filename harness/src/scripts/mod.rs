@@ -13,6 +13,7 @@ pub mod pages;
 pub mod price;
 pub mod sample;
 pub mod scan;
+pub mod signs;
 pub mod stretches;
 pub mod talk;
 pub mod utf16;
@@ -24,19 +25,24 @@ use crate::page::real_numbers;
 use crate::random::Random;
 
 /// The kinds of script, each with what its answers must have, or nothing of that kind was compared: the operations and the
-/// refusals. `P wrong` is a page that is not accepted. `A check` has its answer behind it: `yes`, or the fault's kind. `long` after
-/// an operation: on `LONG` characters at least it succeeds with exactly the places that it needs, or checks them. `long short`:
-/// with one place less it is refused by 8.
+/// refusals. `P wrong` is a page that is not accepted. `A check` has its answer behind it: `yes`, or the fault's kind. `units` after
+/// an operation: A.5's option is on, and a scanner's call has one of its signs. `long`: on `LONG` characters at least it succeeds with
+/// exactly the places that it needs, or checks them. `long short`: with one place less it is refused by 8.
 pub const KINDS: [(&str, &str, &[u32]); 18] = [
     ("pages", "P, P wrong", &[]),
     ("utf8", "L utf8", &[]),
-    ("every", "P, L check, L end, L replace, L start, A check yes, A check char, A check start, A check end", &[1, 4]),
-    ("leaves", "P, P wrong, L check, L end, L replace, L start", &[1, 2, 4]),
+    (
+        "every",
+        "P, L check, L check units, L end, L replace, L replace units, L start, A check yes, A check char, A check start, A check end",
+        &[1, 4],
+    ),
+    ("leaves", "P, P wrong, L check, L check units, L end, L replace, L replace units, L start", &[1, 2, 4]),
     ("isolate", "P, P wrong, L isolate, L isolate long, L isolate long short", &[1, 2, 8]),
-    ("scan", "P, P wrong, S count, S fin, S new, S scan, S scan long, S scan long short", &[1, 2, 8, 10]),
+    ("scan", "P, P wrong, S count, S fin, S new, S scan, S scan units, S scan long, S scan long short", &[1, 2, 8, 10]),
     (
         "price",
-        "P, P wrong, S ask, S commit, S commit long, S commit long short, S count, S fin, S new, S scan",
+        "P, P wrong, S ask, S ask units, S commit, S commit units, S commit long, S commit long short, S count, S fin, S new, S scan, \
+         S scan units",
         &[1, 2, 8, 10],
     ),
     ("fill", "F", &[1, 7]),
@@ -54,7 +60,8 @@ pub const KINDS: [(&str, &str, &[u32]); 18] = [
     ("units", "U16 dec, U16 enc", &[15]),
     (
         "cases",
-        "P, P wrong, L check, L end, L isolate, L start, S ask, S commit, S count, S fin, S new, S scan, F",
+        "P, P wrong, L check, L check units, L end, L isolate, L replace, L replace units, L start, S ask, S ask units, S commit, \
+         S commit units, S count, S fin, S new, S scan, S scan units, F, A check yes, A check char, W bytes, W chars, W new",
         &[1, 2, 4, 7, 8, 10],
     ),
     (
@@ -70,19 +77,20 @@ pub const KINDS: [(&str, &str, &[u32]); 18] = [
     ),
     (
         "demand",
-        "P, P wrong, S commit, S commit long, S fin, S new, S scan, S scan long, W chars, W chars long, W close, W new, L isolate, \
-         L isolate long, A check yes, A check char",
+        "P, P wrong, S commit, S commit units, S commit long, S fin, S new, S scan, S scan units, S scan long, W chars, W chars long, \
+         W close, W new, L isolate, L isolate long, A check yes, A check char",
         &[1, 2, 4, 8],
     ),
     (
         "stretches",
-        "P, P wrong, L isolate, L utf8, S ask, S commit, S new, S scan, W abandon, W bytes, W chars, W close, W flush, W new",
+        "P, P wrong, L isolate, L utf8, S ask, S ask units, S commit, S commit units, S new, S scan, S scan units, W abandon, W bytes, \
+         W chars, W close, W flush, W new",
         &[1, 2, 3, 4, 5, 8, 12],
     ),
     (
         "real",
-        "P, L isolate, S ask, S commit, S count, S fin, S new, S scan, A check yes, A check start, W abandon, W bytes, W chars, W close, \
-         W flush, W held, W new, W places",
+        "P, L isolate, S ask, S ask units, S commit, S commit units, S count, S fin, S new, S scan, S scan units, A check yes, \
+         A check start, W abandon, W bytes, W chars, W close, W flush, W held, W new, W places",
         &[1, 3, 4, 5, 6, 8, 9, 10, 11, 12, 13],
     ),
     ("sample", "P, P wrong, L utf8", &[]),

@@ -2,6 +2,7 @@
 //! refused calls, scans and finishes between. The oracle runs along, so that the number is known.
 
 use super::scan::{at_limit, chunk, finish, long_chunk, page, scan_with, LONGEST};
+use super::signs::SIGNS;
 use super::talk::{ask, commit, Talk};
 use super::{alphabet, page_line};
 use crate::page::Page;
@@ -47,9 +48,13 @@ fn calls(random: &mut Random, talk: &mut Talk) {
     }
 }
 
-/// Asking about a chunk, mostly with a commit of it, and now and then one before it that is lent one place too few.
+/// Asking about a chunk, mostly with a commit of it, and now and then one before it that is lent one place too few. Where a sign for a
+/// unit comes first, and now and then elsewhere, the other setting of A.5's option is asked about before: it may fill other places.
 fn price(random: &mut Random, talk: &mut Talk, chunk: &[u32], room: fn(&mut Random, usize) -> u32) {
-    let options = random.between(0, 3);
+    let options = random.between(0, 7);
+    if chunk.first().is_some_and(|c| SIGNS.contains(c)) || random.once_in(8) {
+        talk.say(ask(options ^ 4, chunk));
+    }
     // Where asking is refused, so is the commit, whatever the places.
     let places = numbered(&talk.say(ask(options, chunk))).unwrap_or(random.below(9));
     if random.once_in(4) && places > 0 {

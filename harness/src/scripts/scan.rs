@@ -1,6 +1,7 @@
 //! Lists of calls on a scanner: chunks of every cut and of up to thousands of characters, options that change, finishes, refusals
 //! between them, and counts at the limit.
 
+use super::signs::SIGNS;
 use super::{alphabet, operation, page_line, pages};
 use crate::page::Page;
 use crate::random::Random;
@@ -98,7 +99,7 @@ fn scan(random: &mut Random, chunk: &[u32]) -> String {
 
 /// A scan that lends places around what is needed.
 pub fn scan_with(random: &mut Random, chunk: &[u32], room: fn(&mut Random, usize) -> u32) -> String {
-    let options = random.between(0, 3);
+    let options = random.between(0, 7);
     let room = room(random, needed(chunk));
     operation("S scan", [options, room].into_iter().chain(chunk.iter().copied()))
 }
@@ -110,7 +111,7 @@ const OWN: [u32; 22] = [
 ];
 
 pub fn chunk(random: &mut Random) -> Vec<u32> {
-    match random.below(8) {
+    match random.below(9) {
         // An escape with something in it, whole or open.
         0 => {
             let open: &[u32] =
@@ -121,6 +122,8 @@ pub fn chunk(random: &mut Random) -> Vec<u32> {
         1 => vec![random.pick(&OWN)],
         2 | 3 => (0..random.below(6)).map(|_| random.pick(&OWN)).collect(),
         4 => [vec![0xFEFF], alphabet::run(random, 4)].concat(),
+        // A sign for a unit first, before which a start may be expected.
+        5 => [vec![random.pick(&SIGNS)], alphabet::run(random, 4)].concat(),
         _ => alphabet::run(random, 9),
     }
 }

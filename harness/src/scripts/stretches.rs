@@ -61,8 +61,8 @@ pub fn stretch(script: usize, from: usize, count: usize) -> Vec<u32> {
 }
 
 /// Line ends, page runs, escapes, whole and open; characters inside a range of plain ones that are not; ligatures;
-/// unassigned ones, joiners, marks; the neighbours of the surrogates; noncharacters.
-const NAMED: [&[u32]; 55] = [
+/// unassigned ones, joiners, marks; the signs for units; the neighbours of the surrogates; noncharacters.
+const NAMED: [&[u32]; 58] = [
     &[0x0A],
     &[0x0D],
     &[0x0D, 0x0A],
@@ -107,6 +107,9 @@ const NAMED: [&[u32]; 55] = [
     &[0x200D],
     &[0x2028],
     &[0x2029],
+    &[0x2126],
+    &[0x212A],
+    &[0x212B],
     &[0xD7FF],
     &[0xE000],
     &[0xF900],
@@ -177,12 +180,13 @@ impl Awkward {
 
 /// Whether a plain writer takes the character.
 fn is_accepted(c: u32) -> bool {
-    c != 0x1B && check(c).is_ok_and(|reason| reason.is_none())
+    c != 0x1B && check(false, c).is_ok_and(|reason| reason.is_none())
 }
 
-/// Whether it does and the replacement is the same.
+/// Whether it does and the replacement, by either setting of A.5's option, is the same.
 fn is_plain(c: u32) -> bool {
-    is_accepted(c) && replacement(c).is_ok_and(|out| out.iter().copied().map(u32::from).eq([c]))
+    let same = |units| replacement(units, c).is_ok_and(|out| out.iter().copied().map(u32::from).eq([c]));
+    is_accepted(c) && same(false) && same(true)
 }
 
 /// A text with something put in at a place.
@@ -235,8 +239,13 @@ fn holed(random: &mut Random) -> Vec<u32> {
             next = next.max(end);
         }
         assigned.push((next, LAST_CHARACTER));
-        let nonstarters: &[Range] =
-            random.pick(&[&[][..], &[(0x300, 0x34E), (0x350, 0x36F)], &[(0x61, 0x61)], &[(0x920, 0x94D)]]);
+        let nonstarters: &[Range] = random.pick(&[
+            &[][..],
+            &[(0x300, 0x34E), (0x350, 0x36F)],
+            &[(0x61, 0x61)],
+            &[(0xC5, 0xC5), (0x3A9, 0x3A9)],
+            &[(0x920, 0x94D)],
+        ]);
         let page = numbers(nonstarters, &assigned);
         if Page::read(&page).is_some() {
             return page;
@@ -342,7 +351,7 @@ fn scan(random: &mut Random, text: Vec<u32>) -> Vec<String> {
             lines.push(random.pick(&BEFORE).to_owned());
         }
     }
-    let options = random.between(0, 3);
+    let options = random.between(0, 7);
     // One in four is asked about, and committed.
     if random.once_in(4) {
         lines.extend([ask(options, &chunk), commit(options, room as usize, &chunk)]);

@@ -3,6 +3,7 @@
 
 pub mod check;
 pub mod data;
+pub mod decompositions;
 pub mod files;
 pub mod original;
 pub mod packed;

@@ -41,7 +41,7 @@ const VARIANTS: [&str; 3] = ["One", "Two", "Three"];
 
 /// The crate `replace`'s file.
 pub fn replaced() -> String {
-    file(REPLACED_HEADER, |c| match replacement(c) {
+    file(REPLACED_HEADER, |c| match replacement(false, c) {
         Ok(out) if out.iter().copied().map(u32::from).ne([c]) => {
             let characters: String = out.iter().map(|character| format!(" {:#x}", u32::from(*character))).collect();
             Some(format!("{}{characters}", VARIANTS[out.len() - 1]))
@@ -52,7 +52,7 @@ pub fn replaced() -> String {
 
 /// The crate `check_char`'s file.
 pub fn reasons() -> String {
-    file(REASONS_HEADER, |c| checked(c).ok().flatten().map(|reason| reason.place.to_string()))
+    file(REASONS_HEADER, |c| checked(false, c).ok().flatten().map(|reason| reason.place.to_string()))
 }
 
 /// Whether the files of both crates, in the folder of crates, are those that are made.
@@ -62,7 +62,7 @@ pub fn check(crates: &Path) -> Result<String, String> {
 }
 
 /// The header and the rows of an answer on characters; it has none for a character outside the runs.
-fn file(header: &str, answer: impl Fn(u32) -> Option<String>) -> String {
+pub fn file(header: &str, answer: impl Fn(u32) -> Option<String>) -> String {
     let mut runs: Vec<(Range, String)> = Vec::new();
     for c in 0..=LAST_CHARACTER {
         let Some(given) = answer(c) else {

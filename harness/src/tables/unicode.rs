@@ -18,7 +18,7 @@ use mathlib.Core.List.{List, [], _∷_}
 use Rattle.replace.specs.Table.{Span, _to_}
 ";
 
-const BLOCKS: &str = "Blocks.txt";
+pub const BLOCKS: &str = "Blocks.txt";
 const DATA: &str = "UnicodeData.txt";
 const READ_ME: &str = "ReadMe.txt";
 
@@ -71,24 +71,32 @@ pub fn check(folder: &Path, package: &Path) -> Result<String, String> {
     Ok(format!("check_char: {}\n", same(package, FILE, &specs(folder)?)?))
 }
 
-/// The characters of UnicodeData.txt whose decomposition has no tag, which makes it canonical, and one character.
+/// The characters whose canonical decomposition has one character.
 fn singletons(folder: &Path) -> Result<Vec<Range>, String> {
+    let all = decompositions(folder)?;
+    Ok(joined(all.iter().filter(|(_, decomposition)| decomposition.len() == 1).map(|(c, _)| *c)))
+}
+
+/// The characters of UnicodeData.txt whose decomposition has no tag, which makes it canonical, each with its decomposition.
+pub fn decompositions(folder: &Path) -> Result<Vec<(u32, Vec<u32>)>, String> {
     let read = |file: &str| fs::read_to_string(folder.join(file)).map_err(|error| format!("{file}: {error}"));
     // The file itself does not name its version.
     if !read(READ_ME)?.contains("Version 15.0.0 of the Unicode Standard") {
         return Err(format!("{READ_ME}: not of Unicode 15.0.0"));
     }
-    let mut characters = Vec::new();
+    let mut all = Vec::new();
     for line in read(DATA)?.lines() {
         let fields: Vec<&str> = line.split(';').collect();
         let (Some(first), Some(decomposition)) = (fields.first(), fields.get(DECOMPOSITION)) else {
             return Err(format!("{DATA}: {line:?} has too few fields"));
         };
-        if u32::from_str_radix(decomposition, 16).is_ok() {
-            characters.push(u32::from_str_radix(first, 16).map_err(|error| format!("{DATA}: {line:?}: {error}"))?);
+        if decomposition.is_empty() || decomposition.starts_with('<') {
+            continue;
         }
+        let number = |word| u32::from_str_radix(word, 16).map_err(|error| format!("{DATA}: {line:?}: {error}"));
+        all.push((number(first)?, decomposition.split(' ').map(number).collect::<Result<_, _>>()?));
     }
-    Ok(joined(characters.into_iter()))
+    Ok(all)
 }
 
 fn definition(name: &str, comment: &str, ranges: &[Range]) -> String {

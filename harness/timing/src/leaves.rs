@@ -2,7 +2,7 @@
 
 use crate::exports::{self, Record};
 use crate::{ours, rust};
-use harness::text_input::scanner::Scanner;
+use harness::text_input::scanner::{Options, Scanner};
 use harness::text_output::writer::{Counter, Sink, Timed};
 use std::collections::VecDeque;
 
@@ -179,9 +179,17 @@ fn same_bytes(lent: &mut Lent, _: &Chunk, count: usize) -> bool {
 /// The scanner, from a record as after one character, without options.
 pub const SCAN: Leaf = Leaf {
     name: "scan",
-    ours: |lent, chunk| ours::scan(&lent.page, &chunk.numbers, &mut lent.ours),
-    rust: |lent, chunk| lent.scanner.clean(&mut chunk.text),
+    ours: |lent, chunk| ours::scan(&lent.page, false, &chunk.numbers, &mut lent.ours),
+    rust: |lent, chunk| lent.scanner.clean(Options::default(), &mut chunk.text),
     same: |lent, _, count| lent.scanner.tail(count).map(u32::from).eq(lent.ours[..count].iter().copied()),
+};
+
+/// The same with A.5's option.
+pub const SCAN_UNITS: Leaf = Leaf {
+    name: "scan, units",
+    ours: |lent, chunk| ours::scan(&lent.page, true, &chunk.numbers, &mut lent.ours),
+    rust: |lent, chunk| lent.scanner.clean(Options { units: true, ..Options::default() }, &mut chunk.text),
+    same: SCAN.same,
 };
 
 /// Asking how many places a chunk fills, and committing it, from the same record. The Rust has its one call for both.

@@ -22,7 +22,9 @@ mod rust;
 
 use clock::{least, Times};
 use inputs::{keeping, writable, INPUTS};
-use leaves::{Chunk, Leaf, Lent, CHECK_RUN, EXPORTED_SCAN, ISOLATE, LEAVES, PAGE, PRICE, SCAN, UTF16, WRITES};
+use leaves::{
+    Chunk, Leaf, Lent, CHECK_RUN, EXPORTED_SCAN, ISOLATE, LEAVES, PAGE, PRICE, SCAN, SCAN_UNITS, UTF16, WRITES,
+};
 use std::process::ExitCode;
 
 /// So many characters are timed at once, as one chunk or as several.
@@ -65,8 +67,8 @@ fn every_character(lent: &mut Lent) -> usize {
     let mut count = 0;
     for c in '\0'..=char::MAX {
         let chunk = &mut Chunk::new(&[c]);
-        for leaf in LEAVES.iter().chain(&UTF16).chain(&PRICE).chain([&CHECK_RUN, &SCAN, &EXPORTED_SCAN]).chain(&WRITES)
-        {
+        let others = [&CHECK_RUN, &SCAN, &SCAN_UNITS, &EXPORTED_SCAN];
+        for leaf in LEAVES.iter().chain(&UTF16).chain(&PRICE).chain(others).chain(&WRITES) {
             leaf.agree(lent, chunk);
         }
         count += 1;
@@ -77,7 +79,7 @@ fn every_character(lent: &mut Lent) -> usize {
 /// ns per character.
 fn of_characters(lent: &mut Lent) {
     heading(&format!("ns per character, chunks of {}", grouped(CHUNK)));
-    for leaf in LEAVES.iter().chain(&UTF16).chain([&SCAN, &EXPORTED_SCAN]).chain(&PRICE) {
+    for leaf in LEAVES.iter().chain(&UTF16).chain([&SCAN, &SCAN_UNITS, &EXPORTED_SCAN]).chain(&PRICE) {
         for input in &INPUTS {
             let text = (input.text)(CHUNK * CHUNKS);
             row(leaf.name, input.name, per_character(leaf, lent, &text, CHUNK));

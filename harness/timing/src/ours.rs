@@ -31,6 +31,7 @@ mod linked {
             size: usize,
             nel: bool,
             lsps: bool,
+            units: bool,
             chunk: *const u32,
             count: usize,
             queue: *mut u32,
@@ -42,6 +43,7 @@ mod linked {
             size: usize,
             nel: bool,
             lsps: bool,
+            units: bool,
             chunk: *const u32,
             count: usize,
             queue: *mut u32,
@@ -53,6 +55,7 @@ mod linked {
             size: usize,
             nel: bool,
             lsps: bool,
+            units: bool,
             chunk: *const u32,
             count: usize,
         ) -> usize;
@@ -116,14 +119,15 @@ pub fn isolate(page: &[u32], chars: &[u32], out: &mut [u32]) -> usize {
     }
 }
 
-/// Without options.
-pub fn scan(page: &[u32], chunk: &[u32], queue: &mut [u32]) -> usize {
+/// Without options but A.5's.
+pub fn scan(page: &[u32], units: bool, chunk: &[u32], queue: &mut [u32]) -> usize {
     unsafe {
         linked::bench_scan(
             page.as_ptr(),
             page.len(),
             false,
             false,
+            units,
             chunk.as_ptr(),
             chunk.len(),
             queue.as_mut_ptr(),
@@ -140,6 +144,7 @@ pub fn commit(page: &[u32], chunk: &[u32], queue: &mut [u32]) -> usize {
             page.len(),
             false,
             false,
+            false,
             chunk.as_ptr(),
             chunk.len(),
             queue.as_mut_ptr(),
@@ -150,7 +155,7 @@ pub fn commit(page: &[u32], chunk: &[u32], queue: &mut [u32]) -> usize {
 
 /// Without options.
 pub fn ask(page: &[u32], chunk: &[u32]) -> usize {
-    unsafe { linked::bench_ask(page.as_ptr(), page.len(), false, false, chunk.as_ptr(), chunk.len()) }
+    unsafe { linked::bench_ask(page.as_ptr(), page.len(), false, false, false, chunk.as_ptr(), chunk.len()) }
 }
 
 pub fn write_str(page: &[u32], crlf: bool, chars: &[u32], out: &mut [u32]) -> usize {

@@ -9,13 +9,13 @@ returns : tie.Need-returns
 returns c =
     let k = c .before .before in
     let d = k .before in
-    answer-accepted _ _ (k .check-basic-text-char .ensures) (c .enum-told .given .1) (sym (d .before .is-char .ensures) ∙ d .if1 .taken)
+    answer-accepted _ _ _ (k .check-by .ensures) (c .enum-told .given .1) (sym (d .before .is-char .ensures) ∙ d .if1 .taken)
 
 returns-2 : tie.Need-returns-2
 returns-2 c =
     let k = c .before .before .before in
     let d = k .before in
-    answer-refused _ _ (k .check-basic-text-char .ensures) _ (c .before .checked .given .1) (sym (d .before .is-char .ensures) ∙ d .if1 .taken)
+    answer-refused _ _ _ (k .check-by .ensures) _ (c .before .checked .given .1) (sym (d .before .is-char .ensures) ∙ d .if1 .taken)
 
 returns-3 : tie.Need-returns-3
 returns-3 c = simp (sym (c .before .is-char .ensures) ∙ c .if1 .left)

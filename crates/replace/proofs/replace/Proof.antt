@@ -6,6 +6,7 @@ use mathlib.Core.List.{List, [], _∷_}
 use native.Mathlib.Omega.{arith}
 use types.Run.{OneOf}
 use lib.Dec.{T}
+use mathlib.Core.Bool.{false}
 use Rattle.replace.specs.declared.Replaced.{Replaced}
 use Rattle.replace.specs.declared.Replaced.the-variants.{One, Two, Three}
 use Rattle.replace.specs.Replace.{replaceOf, replacements}
@@ -73,11 +74,11 @@ ways =
 right : T (all-right same-replaced same-replaced→eq replacements keys ways)
 right = tt
 
-key : (ks : List ℕ) (c : ℕ) (a : Replaced) → T (only same-replaced same-replaced→eq a replacements (points ks)) → OneOf ks c → a ≡ replaceOf c
+key : (ks : List ℕ) (c : ℕ) (a : Replaced) → T (only same-replaced same-replaced→eq a replacements (points ks)) → OneOf ks c → a ≡ replaceOf false c
 unfolding replaceOf
 key ks c a t o = finds-one same-replaced same-replaced→eq a (One c) replacements (points ks) t (points-at ks o)
 
-way : (i : ℕ) (r : tie.At-match-rest) → Holds (nth ways i) (r .before .args .c) (One (r .before .args .c)) (replaceOf (r .before .args .c))
+way : (i : ℕ) (r : tie.At-match-rest) → Holds (nth ways i) (r .before .args .c) (One (r .before .args .c)) (replaceOf false (r .before .args .c))
 unfolding replaceOf
 way i r = way-holds same-replaced same-replaced→eq replacements keys ways (r .before .args .c) (One (r .before .args .c)) right (r .match .rest) i
 

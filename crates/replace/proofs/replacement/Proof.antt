@@ -10,7 +10,7 @@ use Rattle.replace.proofs.replacement.Tie as tie
 returns : tie.Need-returns
 returns c =
     let d = c .before in
-    ap (λ (r : Replaced). 0 ∷ chars r) (c .replace .ensures) ∙ simp (sym (d .before .is-char .ensures) ∙ d .if1 .taken)
+    ap (λ (r : Replaced). 0 ∷ chars r) (c .replace-by .ensures) ∙ simp (sym (d .before .is-char .ensures) ∙ d .if1 .taken)
 
 returns-2 : tie.Need-returns-2
 returns-2 c = simp (sym (c .before .is-char .ensures) ∙ c .if1 .left)

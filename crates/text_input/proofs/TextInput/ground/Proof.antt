@@ -11,7 +11,7 @@ returns-2 c = simp (← c .before .before .before .before .meet .ensures, c .bef
 
 returns-3 : tie.Need-returns-3
 returns-3 c =
-    simp (← c .before .before .before .before .before .meet .ensures, c .before .before .before .enum-told2 .given .1, ← c .before .before .replace .ensures, ← c .before .guard .ensures)
+    simp (← c .before .before .before .before .before .meet .ensures, c .before .before .before .enum-told2 .given .1, ← c .before .before .replace-by .ensures, ← c .before .guard .ensures)
     (c .made3 .ensures)
 
 pub ground-spec : {M : Type 1} → statement M
