@@ -15,6 +15,8 @@ stands. It fails
     of a file that a theorem ties to another source (TIED), or ALONE has it;
   - on a quotation that stands word for word in neither document. One of three words or more may stand in a file of the Rust
     instead, and one behind the name of another source (OTHERS) on its line is not looked up;
+  - on a list of hexadecimal numbers in a sentence, eight or more, that is not quoted whole above a definition of specs/, and on a
+    definition under such a quotation that has not these numbers, as 0x.., in this order;
   - on a wrong program that quotes nothing, or a sentence that no item cites;
   - on a name that docs/PROOFS.md cites, as `name` (crate, File) or `function` (crate), and that does not stand there.
 Documents and Rust are in ../shared/docs, or where DOCUMENT_01, DOCUMENT_02 and BASIC_TEXT_SRC say. Without them it says NOT
@@ -62,6 +64,7 @@ NO_PROOF = {
     "The import job plans": "it says what asking is for",
     "Electric vehicles bring": "it says what the option for units is for; samples/batteries.csv",
     "with it on, they are held": "compared with the Rust so changed: harness/README.md",
+    "To size imports": "it says what the generator is for: README.md",
 }
 
 # The files of specs/ whose definitions a theorem ties to another source, so that no wrong reading of the one passes by itself.
@@ -97,6 +100,9 @@ ALONE = {
     "limits 64 and 136": "a form of the code",
     "'Replacement is one decision": "a form of the code",
 }
+
+# A quoted list of hexadecimal numbers.
+NUMBERS = re.compile(r"(?:\b[0-9A-F]+ ){7,}[0-9A-F]+\b")
 
 wrong = []
 met = set()
@@ -246,6 +252,21 @@ def check_tree(lines):
     return count
 
 
+def check_lists(every):
+    """The lists of numbers of the sentences, each quoted above a definition that has them; how many."""
+    quoted = set()
+    for path in sorted(glob.glob(os.path.join(CRATES, "*", "specs", "**", "*.antt"), recursive=True)):
+        for comment, item in re.findall(r"((?:^ *-- .*\n)+)((?:^.+\n)+)", read(path), re.M):
+            for quotation in re.findall(r'"([^"]*)"', re.sub(r"\s*-- ", " ", comment)):
+                for found in NUMBERS.findall(quotation):
+                    quoted.add(found)
+                    if [int(n, 16) for n in found.split()] != [int(n, 16) for n in re.findall(r"\b0x([0-9A-Fa-f]+)", item)]:
+                        wrong.append(f"{os.path.relpath(path, CRATES)}: not the quoted numbers: {item.split(':')[0]}")
+    lists = [found for clause in every if not clause.why_not for found in NUMBERS.findall(clause.text)]
+    wrong.extend(f"no definition under these numbers, quoted: {found}" for found in lists if found not in quoted)
+    return len(lists)
+
+
 def check_programs(lines):
     """The lines `# Breaks:` of the wrong programs; how many programs."""
     paths = sorted(glob.glob(os.path.join(CRATES, "*", "must-fail", "*.edit")))
@@ -308,7 +329,7 @@ def main():
             return 1 if os.environ.get("CI") else 0
     lines = documents()
     every = [clause for _, parts in lines for clause in parts]
-    quotations, programs, names = check_tree(lines), check_programs(lines), check_names()
+    quotations, lists, programs, names = check_tree(lines), check_lists(every), check_programs(lines), check_names()
     wrong.extend(f"NO_PROOF: no sentence begins with: {first}" for first in NO_PROOF if first not in met)
     wrong.extend(f"{c.heading}: no item quotes `{' '.join(c.missing())}` of: {c.text}" for c in every if c.missing())
     wrong.extend(f"{c.heading}: one definition alone holds: {c.text}" for c in every if not (c.why_not or c.held or c.alone()))
@@ -318,7 +339,7 @@ def main():
         print_map(every)
     for line in wrong:
         print(line)
-    print(f"{len(every)} sentences and clauses, {quotations} quotations, {programs} wrong programs, {names} names: {len(wrong)} wrong")
+    print(f"{len(every)} sentences and clauses, {quotations} quotations, {lists} lists of numbers, {programs} wrong programs, {names} names: {len(wrong)} wrong")
     return 1 if wrong else 0
 
 

@@ -13,6 +13,7 @@ mod pre_normalization;
 mod stand_in;
 
 pub mod check_run;
+pub mod generator;
 pub mod leaves;
 pub mod page;
 pub mod properties;

@@ -4,13 +4,14 @@
 //! the way it is made. The program has to earn it.
 
 use crate::check_run::check_run;
+use crate::generator;
 use crate::leaves::{self, Reason};
 use crate::page::Page;
 use crate::properties;
 use crate::text_input::scanner::{fill, Options, Scanner};
 use crate::text_output::writer::{Mode, Refusal, Writer, MOST_PLACES};
 use crate::utf16::{self, Order};
-use crate::words::{bytes, bytes_list, characters_list, is_operation, number, numbers, pairs, Fault, MOST_BYTES};
+use crate::words::{bytes, bytes_list, characters_list, is_operation, list, number, numbers, pairs, Fault, MOST_BYTES};
 
 /// An answer line, or the word after `?`.
 type Answer = Result<String, Fault>;
@@ -54,6 +55,7 @@ impl Oracle {
             ["W", call @ ..] => self.writer(call),
             ["A", "check", run @ ..] => Ok(self.checked_run(&numbers(run)?)),
             ["U16", call @ ..] => utf16_call(call),
+            ["G", call @ ..] => generator_call(call),
             _ => Err("word"),
         }
     }
@@ -305,6 +307,18 @@ fn utf16_call(words: &[&str]) -> Answer {
                 Ok(out) => format!("ok n={:x} out={} clean", out.len(), bytes_list(&out)),
             })
         }
+        _ => Err("word"),
+    }
+}
+
+fn generator_call(words: &[&str]) -> Answer {
+    match words {
+        ["fill", seed, places] => {
+            let mut out = vec![0; room(places)?];
+            let state = generator::fill(number(seed)?, &mut out);
+            Ok(format!("ok state={state:x} out={}", list(out)))
+        }
+        ["back", state] => Ok(format!("ok {:x}", generator::back(number(state)?))),
         _ => Err("word"),
     }
 }

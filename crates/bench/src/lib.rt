@@ -6,6 +6,7 @@ use check_run::FaultKind;
 use check_run::Verdict;
 use check_run::check_run;
 use common::Answer;
+use generator::fill;
 use isolate_unassigned::isolate;
 use page::is_accepted;
 use replace::Replaced;
@@ -211,6 +212,12 @@ pub extern "C" fn bench_encode_utf16(big: bool, chars: &[u32], out: &mut [u8]) -
         Answer::Written(n) => n,
         Answer::Refused(_) => 0,
     }
+}
+
+// Fills the places with awkward text from a state on, and hands back the state after it. The benchmark draws its awkward text by it.
+#[no_mangle]
+pub extern "C" fn bench_fill(state: u32, out: &mut [u32]) -> u32 {
+    fill(state, out)
 }
 
 // A record that stands in text.

@@ -1,6 +1,6 @@
 // Replays operations of the library: reads them from standard input, one to a line, and writes an
 // answer line for each to standard output. Here are the buffers, the loop over the lines, and the
-// way from a line to what answers it: the module `current` for `P`, the crate `replay_leaves` for `L`, `A` and `U`, the
+// way from a line to what answers it: the module `current` for `P`, the crate `replay_leaves` for `L`, `A`, `U` and `G`, the
 // modules of the crate `replay_streams` for `S` and `F`, and the crate `replay_writer` for `W`.
 //     current.rt   the current page
 //     input.rt     the lines of the input
@@ -91,7 +91,12 @@ fn operate(line: &[u8], page: &mut [u32], list: &mut [u32], out: &mut [u8], stat
     }
     let now = front::numbers(page, state.page);
     match first {
-        b'L' | b'A' | b'U' => state.with_out(replay_leaves::operate(line, now, out, state.out)),
+        b'L' | b'A' | b'U' | b'G' => state.with_out(replay_leaves::operate(
+            line,
+            now,
+            out,
+            state.out,
+        )),
         b'S' => scan(line, now, out, state),
         b'F' => state.with_out(filling::operate(line, out, state.out)),
         b'W' => write(line, now, list, out, state),

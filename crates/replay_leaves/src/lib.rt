@@ -1,12 +1,14 @@
-// The operations `L ..`, `A ..` and `U16 ..` of the program `replay`: entries on one character, on bytes and on a run of
-// characters.
+// The operations `L ..`, `A ..`, `U16 ..` and `G ..` of the program `replay`: entries on one character, on bytes and on a run of
+// characters, and the generator of awkward text.
 //     chars.rt    those on one character
 //     runs.rt     those on bytes and on a run
 //     checks.rt   the check of a run
 //     units.rt    UTF-16
+//     load.rt     the generator
 //     reason.rt   a refused character in an answer
 mod chars;
 mod checks;
+mod load;
 mod reason;
 mod runs;
 mod units;
@@ -48,11 +50,11 @@ fn class(is_end: bool, given: Single, page: &[u32], out: &mut [u8], at: usize) -
     }
 }
 
-// Answers a line whose first letter is L, A or U.
+// Answers a line whose first letter is L, A, U or G.
 pub fn operate(line: &[u8], page: &[u32], out: &mut [u8], at: usize) -> usize {
     let found = words::which(
         line,
-        b"L replace\nL check\nL start\nL end\nL utf8\nL isolate\nA check\nU16 dec le\nU16 dec be\nU16 enc le\nU16 enc be\n",
+        b"L replace\nL check\nL start\nL end\nL utf8\nL isolate\nA check\nU16 dec le\nU16 dec be\nU16 enc le\nU16 enc be\nG fill\nG back\n",
     );
     let number = found.number;
     let place = found.place;
@@ -68,6 +70,8 @@ pub fn operate(line: &[u8], page: &[u32], out: &mut [u8], at: usize) -> usize {
         8 => units::operate(true, ByteOrder::Big, line, place, out, at),
         9 => units::operate(false, ByteOrder::Little, line, place, out, at),
         10 => units::operate(false, ByteOrder::Big, line, place, out, at),
+        11 => load::fill(line, place, out, at),
+        12 => load::back(words::one_number(line, place), out, at),
         _ => answer::refuse(out, at, Why::Word),
     }
 }

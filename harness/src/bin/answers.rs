@@ -1,16 +1,16 @@
 //! Compares two files of answers to a script of one kind: `answers KIND SCRIPT ORACLE OURS`. Prints how many answers were
 //! compared, those by `?` apart, to which operations, how often each refusal was met, how many long calls stood at their limit of
-//! places, with exactly what they need and with one place less, and how many long runs were checked. It ends with 1, and says why, at
-//! the first difference, at an answer that is missing on either side or on both, at an answer too many, at a script without
-//! operations, and where an operation or a refusal that the kind must have was not met.
+//! places, with exactly what they need and with one place less, how many long runs were checked or filled, and from how many seeds. It
+//! ends with 1, and says why, at the first difference, at an answer that is missing on either side or on both, at an answer too many,
+//! at a script without operations, and where an operation or a refusal that the kind must have, or a pick, was not met.
 
 use harness::scripts::lent::lent;
 use harness::scripts::signs::has_units;
 use harness::scripts::write::Known;
 use harness::scripts::{KINDS, LONG};
-use harness::words::{is_operation, numbered};
+use harness::words::{is_operation, listed, number, numbered};
 use std::borrow::Cow;
-use std::collections::BTreeMap;
+use std::collections::{BTreeMap, HashSet};
 use std::fmt;
 use std::fs::File;
 use std::io::{self, BufRead, BufReader};
@@ -55,12 +55,15 @@ struct Met {
     /// The answers that were compared, by their operations.
     operations: BTreeMap<String, usize>,
     refusals: BTreeMap<u32, usize>,
-    /// The long calls at their limit and the long runs that were checked, by the names that a kind asks for.
+    /// The long calls at their limit and the long runs that were checked or filled, by the names that a kind asks for.
     long: BTreeMap<String, usize>,
     /// The writer, whose kept and held characters need places too.
     writer: Known,
     /// How many places the last chunk that was asked about fills.
     priced: usize,
+    /// What the generator filled from, and the characters that it picked.
+    seeds: HashSet<u32>,
+    picks: HashSet<u32>,
     /// The answers by `?`, of which nothing is compared.
     faults: usize,
 }
@@ -114,6 +117,18 @@ impl Met {
         if operation.starts_with('W') {
             self.writer.learn(operation, answer);
         }
+        if operation.starts_with("G fill") {
+            self.learn_fill(operation, answer);
+        }
+    }
+
+    fn learn_fill(&mut self, operation: &str, answer: &str) {
+        let picks = listed(answer);
+        if picks.len() >= LONG {
+            *self.long.entry("G fill long".to_owned()).or_default() += 1;
+        }
+        self.picks.extend(picks);
+        self.seeds.extend(operation.split(' ').nth(2).and_then(|seed| number(seed).ok()));
     }
 
     fn learn_long(&mut self, operation: &str, answer: &str) {
@@ -140,7 +155,7 @@ impl Met {
     /// Itself, if it has all of these.
     fn with_all(self, operations: &str, refusals: &[u32]) -> Outcome {
         if let Some(name) = operations.split(", ").find(|name| !self.has(name)) {
-            return Err(format!("NOTHING COMPARED: no answer to {name}"));
+            return Err(format!("NOTHING COMPARED: no {name} among the answers"));
         }
         if let Some(number) = refusals.iter().find(|number| !self.refusals.contains_key(number)) {
             return Err(format!("NOTHING COMPARED: no answer is refused by {number}"));
@@ -149,7 +164,16 @@ impl Met {
     }
 
     fn has(&self, name: &str) -> bool {
-        self.operations.contains_key(name) || self.long.contains_key(name)
+        let seeds = name.strip_suffix(" seeds").and_then(|count| count.parse().ok());
+        self.operations.contains_key(name)
+            || self.long.contains_key(name)
+            || self.picked() == name
+            || seeds.is_some_and(|count| self.seeds.len() >= count)
+    }
+
+    /// How many characters of the generator's list were picked.
+    fn picked(&self) -> String {
+        format!("{} picks", self.picks.len())
     }
 }
 
@@ -163,6 +187,9 @@ impl fmt::Display for Met {
         }
         if !self.long.is_empty() {
             write!(f, "\n  long: {}", counts(&self.long))?;
+        }
+        if !self.seeds.is_empty() {
+            write!(f, "\n  {} different seeds, {}", self.seeds.len(), self.picked())?;
         }
         Ok(())
     }

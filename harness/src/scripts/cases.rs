@@ -1,5 +1,6 @@
-//! The cases that document 01 names for the leaves, the scanner and filling, its corners, those of asking and committing and of the signs
-//! for units (document 02, A.4 and A.5), and the original's own tests, as one fixed script. Each stands under its name.
+//! The cases that document 01 names for the leaves, the scanner and filling, its corners, those of asking and committing, of the signs
+//! for units and of the generator (document 02, A.4, A.5 and A.6), and the original's own tests, as one fixed script. Each stands under
+//! its name.
 
 use super::operation;
 
@@ -7,7 +8,7 @@ use super::operation;
 pub type Case = (&'static str, &'static [&'static str]);
 
 pub fn script() -> Vec<String> {
-    let mut lines = under_names(&[&CHECKED[..], &RUN, &WRONG, &LEAVES, &SCANS, &UNITS, &TESTS].concat());
+    let mut lines = under_names(&[&CHECKED[..], &RUN, &WRONG, &LEAVES, &SCANS, &UNITS, &TESTS, &GENERATOR].concat());
     lines.extend(long_queues());
     lines
 }
@@ -416,6 +417,39 @@ const TESTS: [Case; 2] = [
     (
         "test_is_char_boundary",
         &["F 88 0080", "F 88 4180", "F 88 7f80", "F 88 8080", "F 88 bf80", "F 88 c080", "F 88 cf80", "F 88 ff80"],
+    ),
+];
+
+/// The generator of document 02, A.6.
+const GENERATOR: [Case; 5] = [
+    (
+        "from 0 step by step: the states of Numerical Recipes in C, section 7.1",
+        &[
+            "G fill 0 1",
+            "G fill 3c6ef35f 1",
+            "G fill 47502932 1",
+            "G fill d1ccf6e9 1",
+            "G fill aaf95334 1",
+            "G fill 6252e503 1",
+            "G fill 9f2ec686 1",
+            "G fill 57fe6c2d 1",
+            "G fill a3d95fa8 1",
+            "G fill 81fdbee7 1",
+            "G fill 94f0af1a 1",
+        ],
+    ),
+    ("no place, one, and many", &["G fill 0 0", "G fill ffffffff 0", "G fill ffffffff 1", "G fill 0 b", "G fill 0 40"]),
+    (
+        "two adjoining parts, and the whole",
+        &["G fill 1 5", "G fill cf06d60 7", "G fill 1 c", "G fill 1 0", "G fill 1 1", "G fill 3c88596c b"],
+    ),
+    (
+        "the states of the same book, back to 0 and to the one before it",
+        &["G back cbf633b1", "G back 94f0af1a", "G back 47502932", "G back 3c6ef35f", "G back 0"],
+    ),
+    (
+        "back from the greatest state, the least, and beside the number that is added",
+        &["G back ffffffff", "G back 1", "G back 80000000", "G back 3c6ef35e", "G back 3c6ef360"],
     ),
 ];
 

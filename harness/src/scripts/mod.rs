@@ -6,6 +6,7 @@ pub mod check;
 pub mod demand;
 pub mod every;
 pub mod fill;
+pub mod generator;
 pub mod isolate;
 pub mod leaves;
 pub mod lent;
@@ -27,8 +28,9 @@ use crate::random::Random;
 /// The kinds of script, each with what its answers must have, or nothing of that kind was compared: the operations and the
 /// refusals. `P wrong` is a page that is not accepted. `A check` has its answer behind it: `yes`, or the fault's kind. `units` after
 /// an operation: A.5's option is on, and a scanner's call has one of its signs. `long`: on `LONG` characters at least it succeeds with
-/// exactly the places that it needs, or checks them. `long short`: with one place less it is refused by 8.
-pub const KINDS: [(&str, &str, &[u32]); 18] = [
+/// exactly the places that it needs, or checks or fills them. `long short`: with one place less it is refused by 8. `32 picks`: the
+/// generator filled places with so many different characters. `1000000 seeds`: from so many different seeds at least.
+pub const KINDS: [(&str, &str, &[u32]); 19] = [
     ("pages", "P, P wrong", &[]),
     ("utf8", "L utf8", &[]),
     (
@@ -46,6 +48,7 @@ pub const KINDS: [(&str, &str, &[u32]); 18] = [
         &[1, 2, 8, 10],
     ),
     ("fill", "F", &[1, 7]),
+    ("generator", "G fill, G fill long, G back, 32 picks, 1000000 seeds", &[]),
     (
         "check",
         "P, P wrong, A check yes, A check char, A check start, A check end, A check newline, A check yes long, \
@@ -61,7 +64,8 @@ pub const KINDS: [(&str, &str, &[u32]); 18] = [
     (
         "cases",
         "P, P wrong, L check, L check units, L end, L isolate, L replace, L replace units, L start, S ask, S ask units, S commit, \
-         S commit units, S count, S fin, S new, S scan, S scan units, F, A check yes, A check char, W bytes, W chars, W new",
+         S commit units, S count, S fin, S new, S scan, S scan units, F, A check yes, A check char, W bytes, W chars, W new, \
+         G fill, G back",
         &[1, 2, 4, 7, 8, 10],
     ),
     (
@@ -103,12 +107,13 @@ pub const LONG: usize = 1_000;
 pub type Lines = Box<dyn Iterator<Item = String>>;
 
 /// `count` operations of a kind; none if there is no such kind. `cases` and `write-cases` are whole whatever the count, in
-/// `every` and `units` the count is a step, one character in so many, in `sample` it is that of the random ones, and `real` has so many of
-/// each of its five kinds. `demand` ends with a whole text, past the count.
+/// `every` and `units` the count is a step, one character in so many, in `sample` it is that of the random ones, in `generator`
+/// that of the seeds, and `real` has so many of each of its five kinds. `demand` ends with a whole text, past the count.
 pub fn script(kind: &str, seed: u64, count: usize) -> Option<Lines> {
     match kind {
         "every" => Some(Box::new(every::script(seed, count))),
         "units" => Some(Box::new(utf16::units(count.max(1)))),
+        "generator" => Some(Box::new(generator::script(seed, count))),
         "stretches" => Some(Box::new(stretches::script(seed, count))),
         "real" => Some(Box::new(with_real_page(seed, count))),
         _ => drawn(kind, seed, count).map(|lines| Box::new(lines.into_iter()) as Lines),

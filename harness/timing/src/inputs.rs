@@ -1,5 +1,6 @@
 //! The characters that are timed, equal in every run.
 
+use crate::ours;
 use harness::check_basic_text_char;
 use harness::random::Random;
 
@@ -12,10 +13,6 @@ const LATIN: &str = "Portez ce vieux whisky au juge blond qui fume sur son île 
 
 const DEVANAGARI: &str = "सभी मनुष्यों को गौरव और अधिकारों के मामले में जन्मजात स्वतन्त्रता और समानता प्राप्त है। उन्हें बुद्धि और \
     अन्तरात्मा की देन प्राप्त है और परस्पर उन्हें भाईचारे के भाव से बर्ताव करना चाहिए।";
-
-/// Characters of which nearly each takes another way through the scanner.
-const AWKWARD: &str = "a\n\r\u{C}\u{1B}[]\u{7}\u{18}1mH \u{E9}\u{301}\u{200D}\u{FB03}\u{2028}\u{85}\u{FEFF}\u{2126}\
-    \u{378}\u{34F}\u{600}\u{903}\u{1F3FB}\u{10FFFF}\u{7F}@?~\t";
 
 /// An input: its name, and so many characters of it.
 pub struct Input {
@@ -71,10 +68,11 @@ fn characters(next: fn(&mut Random) -> char, count: usize) -> Vec<char> {
     (0..count).map(|_| next(random)).collect()
 }
 
+/// What the port's generator fills from the seed 7 (document 02, A.6): nearly each character takes another way through the scanner.
 fn awkward(count: usize) -> Vec<char> {
-    let random = &mut Random::new(7);
-    let list: Vec<char> = AWKWARD.chars().collect();
-    (0..count).map(|_| random.pick(&list)).collect()
+    let mut places = vec![0; count];
+    ours::fill(7, &mut places);
+    places.into_iter().map(|c| char::from_u32(c).expect("a character of the list")).collect()
 }
 
 /// Most are ideographs; some are kana, Hangul and signs.

@@ -1,7 +1,8 @@
-//! The leaves, the scanner and the writer, each with its two sides.
+//! The leaves, the scanner, the writer and the generator of awkward text, each with its two sides.
 
 use crate::exports::{self, Record};
 use crate::{ours, rust};
+use harness::generator;
 use harness::text_input::scanner::{Options, Scanner};
 use harness::text_output::writer::{Counter, Sink, Timed};
 use std::collections::VecDeque;
@@ -66,7 +67,7 @@ impl Lent {
     }
 }
 
-/// One side of a leaf: the sum over a chunk, or how many characters it wrote.
+/// One side of a leaf: the sum over a chunk, or how many characters it wrote; of the generator the state.
 pub type Side = fn(&mut Lent, &mut Chunk) -> usize;
 
 pub struct Leaf {
@@ -254,6 +255,15 @@ fn handed_out(crlf: bool, write: impl FnOnce(&mut Timed<Sink>) -> bool, ours: &[
     write(&mut rust);
     rust.handed_out().into_iter().map(u32::from).eq(ours.iter().copied())
 }
+
+/// The generator: as many places as the chunk has characters, filled from the number of its first one. A side says the state that it
+/// hands back.
+pub const FILL: Leaf = Leaf {
+    name: "fill",
+    ours: |lent, chunk| ours::fill(chunk.numbers[0], &mut lent.ours[..chunk.numbers.len()]) as usize,
+    rust: |lent, chunk| generator::fill(chunk.numbers[0], &mut lent.rust[..chunk.numbers.len()]) as usize,
+    same: |lent, chunk, _| lent.ours[..chunk.numbers.len()] == lent.rust[..chunk.numbers.len()],
+};
 
 /// The leaf on the page: it takes no characters.
 pub const PAGE: Leaf = Leaf {

@@ -1,4 +1,4 @@
-//! Times each leaf, the scanner and the writer of the port beside the Rust's, in one run:
+//! Times each leaf, the scanner, the writer and the generator of the port beside the Rust's, in one run:
 //!
 //!     timing CHART
 //!
@@ -21,9 +21,9 @@ mod ours;
 mod rust;
 
 use clock::{least, Times};
-use inputs::{keeping, writable, INPUTS};
+use inputs::{keeping, writable, GROWING, INPUTS};
 use leaves::{
-    Chunk, Leaf, Lent, CHECK_RUN, EXPORTED_SCAN, ISOLATE, LEAVES, PAGE, PRICE, SCAN, SCAN_UNITS, UTF16, WRITES,
+    Chunk, Leaf, Lent, CHECK_RUN, EXPORTED_SCAN, FILL, ISOLATE, LEAVES, PAGE, PRICE, SCAN, SCAN_UNITS, UTF16, WRITES,
 };
 use std::process::ExitCode;
 
@@ -67,7 +67,7 @@ fn every_character(lent: &mut Lent) -> usize {
     let mut count = 0;
     for c in '\0'..=char::MAX {
         let chunk = &mut Chunk::new(&[c]);
-        let others = [&CHECK_RUN, &SCAN, &SCAN_UNITS, &EXPORTED_SCAN];
+        let others = [&CHECK_RUN, &SCAN, &SCAN_UNITS, &EXPORTED_SCAN, &FILL];
         for leaf in LEAVES.iter().chain(&UTF16).chain(&PRICE).chain(others).chain(&WRITES) {
             leaf.agree(lent, chunk);
         }
@@ -95,6 +95,9 @@ fn of_characters(lent: &mut Lent) {
         let text = keeping((input.text)(CHUNK * CHUNKS), CHUNK);
         row(CHECK_RUN.name, input.name.trim_end_matches(" CRLF"), per_character(&CHECK_RUN, lent, &text, CHUNK));
     }
+    // It reads no text: one row for all inputs.
+    let [_, awkward] = GROWING;
+    row(FILL.name, awkward.name, per_character(&FILL, lent, &(awkward.text)(CHUNK * CHUNKS), CHUNK));
     for size in SMALL {
         heading(&format!("ns per character, chunks of {size}"));
         for input in &INPUTS {

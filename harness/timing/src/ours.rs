@@ -90,6 +90,8 @@ mod linked {
         pub fn bench_decode_utf16(big: bool, bytes: *const u8, count: usize, out: *mut u32, room: usize) -> usize;
         /// Writes characters as UTF-16 to the bytes from `out` on, which nothing else has: how many, or 0 for a refusal.
         pub fn bench_encode_utf16(big: bool, chars: *const u32, count: usize, out: *mut u8, room: usize) -> usize;
+        /// Fills the places from `out` on, which nothing else has, by the generator of awkward text: the state that it hands back.
+        pub fn bench_fill(state: u32, out: *mut u32, count: usize) -> u32;
     }
 }
 
@@ -188,4 +190,8 @@ pub fn decode_utf16(big: bool, bytes: &[u8], out: &mut [u32]) -> usize {
 
 pub fn encode_utf16(big: bool, chars: &[u32], out: &mut [u8]) -> usize {
     unsafe { linked::bench_encode_utf16(big, chars.as_ptr(), chars.len(), out.as_mut_ptr(), out.len()) }
+}
+
+pub fn fill(state: u32, out: &mut [u32]) -> u32 {
+    unsafe { linked::bench_fill(state, out.as_mut_ptr(), out.len()) }
 }
