@@ -11,9 +11,7 @@ use crate::properties;
 use crate::text_input::scanner::{fill, Options, Scanner};
 use crate::text_output::writer::{Mode, Refusal, Writer, MOST_PLACES};
 use crate::utf16::{self, Order};
-use crate::words::{
-    bytes, bytes_list, characters_list, is_operation, list, number, numbers, pairs, wide_number, Fault, MOST_BYTES,
-};
+use crate::words::{bytes, bytes_list, characters_list, is_operation, list, number, numbers, pairs, Fault, MOST_BYTES};
 
 /// An answer line, or the word after `?`.
 type Answer = Result<String, Fault>;
@@ -96,13 +94,9 @@ impl Oracle {
                 "new".to_owned()
             }
             ["count", count] => {
-                self.scanner.count = wide_number(count)?;
+                self.scanner.count = number(count)?;
                 "count".to_owned()
             }
-            ["narrow"] => match self.scanner.narrow() {
-                Ok(()) => "ok".to_owned(),
-                Err(number) => format!("no {number}"),
-            },
             ["scan", options, places, chunk @ ..] => {
                 let (options, places, chunk) = (options_of(options)?, room(places)?, numbers(chunk)?);
                 let answer = self.scanner.scan(self.page, options, places, &chunk);

@@ -1,6 +1,6 @@
 //! Scan, finish and filling of document 01 over the original's `TextInput`, of which this is a child module, with asking and
-//! committing of document 02 (A.4), its option for the signs for units (A.5), the count of 64 bits and the saved record (A.7). The
-//! conversions are `process_raw_string` and `read_with_status`; the refusals and the count are the documents'.
+//! committing of document 02 (A.4) and its option for the signs for units (A.5). The conversions are `process_raw_string` and
+//! `read_with_status`; the refusals and the count are the documents'.
 
 use super::{State, TextInput};
 use crate::words::characters;
@@ -38,30 +38,8 @@ pub struct Record {
     pub at_start: bool,
     /// The last character ever appended; before the first it is 0A, which is an end.
     pub last: char,
-    /// "The record holds a 32-bit count of characters taken, dropped ones included.", "Widen the scanner's count to 64 bits."
-    pub count: u64,
-}
-
-/// "A record saved with the 32-bit count": the count as saved, and all else.
-#[derive(Clone, Copy)]
-pub struct Saved {
+    /// "The record holds a 32-bit count of characters taken, dropped ones included."
     pub count: u32,
-    pub rest: Record,
-}
-
-impl Saved {
-    /// "is read into the new one with its count and all else unchanged"
-    pub fn read_in(self) -> Record {
-        Record { count: u64::from(self.count), ..self.rest }
-    }
-}
-
-impl Record {
-    /// "goes back the same way when the count fits", "a record whose count passes 4,294,967,295 gives 16 on going back"
-    pub fn go_back(self) -> Result<Saved, u32> {
-        let count = u32::try_from(self.count).map_err(|_| 16u32)?;
-        Ok(Saved { count, rest: self })
-    }
 }
 
 impl fmt::Display for Record {
@@ -110,7 +88,7 @@ const STATES: [State; 9] = [
 /// A scanner. Its queue is kept, so that the last character ever appended is known.
 pub struct Scanner {
     reader: TextReader<Source>,
-    pub count: u64,
+    pub count: u32,
 }
 
 impl Default for Scanner {
@@ -126,14 +104,17 @@ fn reader(status: Status) -> TextReader<Source> {
 impl Scanner {
     /// Takes a chunk, and answers how many characters it appends. "Order: 2, 1, 10, 8."
     pub fn scan(&mut self, page: bool, options: Options, room: usize, chunk: &[u32]) -> Result<usize, u32> {
-        scan_refusal(self.count, page, characters(chunk).is_some(), chunk.len(), room)?;
+        self.refuse(page, chunk)?;
+        if room < needed(chunk) {
+            return Err(8);
+        }
         Ok(self.take(options, chunk))
     }
 
     /// How many characters a chunk would append: as many as it appends to a copy. "Asking changes nothing and is refused by 2, 1
     /// and 10 as a scan is."
     pub fn ask(&self, page: bool, options: Options, chunk: &[u32]) -> Result<usize, u32> {
-        refusal(self.count, page, characters(chunk).is_some(), chunk.len())?;
+        self.refuse(page, chunk)?;
         let mut copy = Self::default();
         copy.put(self.record());
         Ok(copy.take(options, chunk))
@@ -147,16 +128,21 @@ impl Scanner {
         Ok(self.take(options, chunk))
     }
 
-    /// The record goes back to a saved one, which is read in again: "S narrow" of the replay protocol.
-    pub fn narrow(&mut self) -> Result<(), u32> {
-        let saved = self.record().go_back()?;
-        self.put(saved.read_in());
+    /// The refusals by 2, 1 and 10.
+    fn refuse(&self, page: bool, chunk: &[u32]) -> Result<(), u32> {
+        if !page {
+            return Err(2);
+        }
+        characters(chunk).ok_or(1u32)?;
+        // "10 the count would pass 4,294,967,295"
+        let taken = u32::try_from(chunk.len()).map_err(|_| 10u32)?;
+        self.count.checked_add(taken).ok_or(10u32)?;
         Ok(())
     }
 
     /// `process_raw_string` on a chunk that is not refused, and how many characters it appends.
     fn take(&mut self, options: Options, chunk: &[u32]) -> usize {
-        self.count += chunk.len() as u64;
+        self.count += chunk.len() as u32;
         let input = &mut self.reader.input;
         options.put(input);
         input.raw_string.clear();
@@ -253,39 +239,12 @@ impl Scanner {
     }
 }
 
-/// The refusals by 2, 1 and 10: by the count before the chunk, whether the page is accepted, whether every value is a character, and how
-/// many these are. "10 now stands for a count past 2^64 - 1 or a chunk past 4,294,967,295 characters"
-fn refusal(count: u64, page: bool, chars: bool, length: usize) -> Result<(), u32> {
-    if !page {
-        return Err(2);
-    }
-    if !chars {
-        return Err(1);
-    }
-    let taken = u32::try_from(length).map_err(|_| 10u32)?;
-    count.checked_add(u64::from(taken)).ok_or(10u32)?;
-    Ok(())
-}
-
-/// Those of a scan, by the number of places too. "Order: 2, 1, 10, 8."
-pub fn scan_refusal(count: u64, page: bool, chars: bool, length: usize, room: usize) -> Result<(), u32> {
-    refusal(count, page, chars, length)?;
-    if room < places_for(length) {
-        return Err(8);
-    }
-    Ok(())
-}
-
 /// "A chunk of n characters needs 3 × n + 1 free places, an empty one none."
 pub fn needed(chunk: &[u32]) -> usize {
-    places_for(chunk.len())
-}
-
-fn places_for(length: usize) -> usize {
-    if length == 0 {
+    if chunk.is_empty() {
         0
     } else {
-        3 * length + 1
+        3 * chunk.len() + 1
     }
 }
 

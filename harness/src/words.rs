@@ -14,16 +14,11 @@ pub fn is_operation(line: &str) -> bool {
 
 /// A number: hexadecimal, lower case, without a prefix, at most ffffffff.
 pub fn number(word: &str) -> Result<u32, Fault> {
-    u32::try_from(wide_number(word)?).map_err(|_| "number")
-}
-
-/// "numbers over ffffffff only where said": at most ffffffffffffffff.
-pub fn wide_number(word: &str) -> Result<u64, Fault> {
     let is_digit = |b: u8| matches!(b, b'0'..=b'9' | b'a'..=b'f');
     if word.is_empty() || !word.bytes().all(is_digit) {
         return Err("word");
     }
-    u64::from_str_radix(word, 16).map_err(|_| "number")
+    u32::from_str_radix(word, 16).map_err(|_| "number")
 }
 
 /// The numbers of all words.

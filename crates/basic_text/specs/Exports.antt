@@ -39,7 +39,6 @@ abbrev pub page_of : List ℕ → List ℕ
 page_of bytes = cond (eqb (length bytes % 4) 0) (numbers_of bytes) []
 
 -- ---- a call's arguments
--- the count crosses as it is, a number of 64 bits: "Widen the scanner's count to 64 bits."
 abbrev pub record_of : Record → TextInput
 record_of r =
     record {

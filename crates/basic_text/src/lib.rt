@@ -1,41 +1,33 @@
-// The library that Rust links: the scanner's calls and the write of bytes, on lent bytes, and what is done with a record that was saved
-// with the 32-bit count. Bytes are read as 32-bit numbers, a record goes in and comes back as plain numbers, and nothing is allocated or
-// kept between calls.
+// The library that Rust links: the scanner's calls and the write of bytes, on lent bytes. Bytes are read as 32-bit numbers, a record
+// goes in and comes back as plain numbers, and nothing is allocated or kept between calls.
 //     numbers.rt        bytes as numbers
 //     plain.rt          a record, options and an answer as numbers
 //     plain_writer.rt   the writer's record and its answer as numbers
 //     run.rt            a run of characters
-//     saved.rt          a saved record as numbers
 //     writing.rt        a write of bytes
 mod numbers;
 mod plain;
 mod plain_writer;
 mod run;
-mod saved;
 mod writing;
 
 ghost use Rattle.std.specs.Prelude.{◌≡◌, ◌≤◌, length, take};
 ghost use Rattle.std.proofs.lemmas.List.Edits.{sets};
 ghost use Rattle.text_input.specs.Scan.{outcome, scan_of, finish_of};
-ghost use Rattle.text_input_parts.specs.Refusals.{places_for_chunk, refusal_of};
-ghost use Rattle.text_input_saved.specs.Saved.{widen_of, narrow_of};
 ghost use Rattle.text_output.specs.Write.{write_of};
 ghost use Rattle.basic_text_numbers.specs.Numbers.{flag};
-ghost use Rattle.basic_text.specs.Exports.{numbers_of, bytes_of, page_of, record_of, record_numbers, options_of, reply_of, writer_of, write_reply_of};
-ghost use Rattle.basic_text.specs.Saved.{saved_of, narrow_reply_of};
+ghost use Rattle.basic_text.specs.Exports.{numbers_of, bytes_of, page_of, record_of, options_of, reply_of, writer_of, write_reply_of};
 ghost use Rattle.basic_text.specs.Inner.{longest_page, fitting};
 
 use basic_text_numbers::flag_of;
 use common::{Answer, NO_ROOM};
 use numbers::{hold_chars, read_numbers, write_numbers};
 use page::is_accepted;
-use plain::{options_of, record_numbers, record_of, reply_of};
+use plain::{options_of, record_of, reply_of};
 use plain_writer::{write_reply_of, writer_of};
 use run::{run, skips};
-use saved::{narrow_reply_of, saved_of};
 use text_input::{Options, Scanned, TextInput};
 use text_input_parts::refusals::refusal;
-use text_input_saved::{narrow, widen};
 use writing::write;
 
 // The scanner's record. A state's number past the last is read as 0, and a flag is false at 0 alone.
@@ -46,26 +38,7 @@ pub struct Record {
     pub expect_starter: u32,
     pub at_start: u32,
     pub last: u32,
-    pub count: u64,
-}
-
-// The scanner's record as it was saved before its count had 64 bits. Its numbers are read as those of `Record`.
-#[repr(C)]
-#[derive(Drop)]
-pub struct Record32 {
-    pub state: u32,
-    pub expect_starter: u32,
-    pub at_start: u32,
-    pub last: u32,
     pub count: u32,
-}
-
-// The number of a refusal, or 0; the record to save, zeros where it is refused.
-#[repr(C)]
-#[derive(Drop)]
-pub struct NarrowReply {
-    pub refused: u32,
-    pub record: Record32,
 }
 
 // The number of a refusal, or 0; how many numbers were written; the record after the call.
@@ -159,7 +132,7 @@ fn scan(r: TextInput, page: &[u32], options: Options, chunk: &[u8], queue: &mut 
     );
     if no == 0 {
         let from = skips(r, chunk);
-        let opened = r.open(n as u64);
+        let opened = r.open(n as u32);
         let ran = run(opened, page, options, chunk, from, queue);
         let next = ran.next;
         Scanned {
@@ -240,42 +213,6 @@ pub extern "C" fn basic_text_finish(record: Record, eof: u32, queue: &mut [u8]) 
     let end = flag_of(eof);
     let finished = finish(r, end, queue);
     reply_of(finished)
-}
-
-// The number by which a scan of n characters with so many places is refused, or 0: by the record's count, whether the page is accepted
-// (0 for no), and whether every value is a character. It is the condition of `basic_text_scan` by itself, for chunks that are too long
-// to be lent in a test. Total.
-#[unsafe(no_mangle)]
-pub extern "C" fn basic_text_refusal(
-    count: u64,
-    page: u32,
-    chars: u32,
-    n: usize,
-    room: usize,
-) -> u32
-    ensures { result ≡ refusal_of count (flag page) (flag chars) n (places_for_chunk n) room }
-{
-    refusal(count, flag_of(page), flag_of(chars), n, room)
-}
-
-// A record saved with the 32-bit count is read in. Total, and never refused.
-#[unsafe(no_mangle)]
-pub extern "C" fn basic_text_widen(saved: Record32) -> Record
-    ensures { result ≡ record_numbers (widen_of (saved_of saved)) }
-{
-    let s = saved_of(saved);
-    let r = widen(s);
-    record_numbers(r)
-}
-
-// The record to save with the 32-bit count. Total: refuses as `text_input_saved::narrow`; the record stays the caller's.
-#[unsafe(no_mangle)]
-pub extern "C" fn basic_text_narrow(record: Record) -> NarrowReply
-    ensures { result ≡ narrow_reply_of (narrow_of (record_of «record»)) }
-{
-    let r = record_of(record);
-    let a = narrow(r);
-    narrow_reply_of(a)
 }
 
 // Bytes are written. Page, bytes and queue are lent as bytes; the kept characters stand in the queue's first places, those of the write

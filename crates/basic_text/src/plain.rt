@@ -32,7 +32,7 @@ pub fn options_of(n: u32) -> Options
     }
 }
 
-pub fn record_numbers(r: TextInput) -> Record
+fn record_numbers(r: TextInput) -> Record
     ensures { result ≡ record_numbers r }
 {
     let state = r.state;

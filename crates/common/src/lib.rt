@@ -29,7 +29,7 @@ pub const NO_ROOM: u32 = 8;
 // A writer record with a held count that its state can't have, or over 64.
 pub const UNSOUND_WRITER: u32 = 9;
 
-// The count would pass 2^64 - 1, or the chunk has more than 4,294,967,295 characters.
+// The count would pass 4,294,967,295.
 pub const COUNT_LIMIT: u32 = 10;
 
 // A flush or a close after a non-end.
@@ -46,9 +46,6 @@ pub const ODD_BYTES: u32 = 14;
 
 // A surrogate in no pair; it comes with its place.
 pub const UNPAIRED_SURROGATE: u32 = 15;
-
-// A record whose count passes 4,294,967,295, which a saved record has no room for.
-pub const WIDE_COUNT: u32 = 16;
 
 // What scan, finish, isolation and writing UTF-16 answer: how many places were written, or the number of a refusal.
 #[derive(Drop)]

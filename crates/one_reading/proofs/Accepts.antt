@@ -8,7 +8,7 @@
 use Prim.Native.Nat.{ℕ, zero, suc, ◌+◌, ◌*◌}
 use mathlib.Core.Bool.{Bool, true, false, cond, not, ◌&&◌, ◌||◌}
 use mathlib.Core.List.{List}
-use mathlib.Core.Path.{◌≡◌, refl, ap, sym, ◌∙◌}
+use mathlib.Core.Path.{◌≡◌, refl, ap, ap₂, sym, ◌∙◌}
 use native.Mathlib.Omega.{arith}
 use lib.Dec.{eqb, ltb, leb}
 use lib.ListN.{length}
@@ -17,7 +17,7 @@ use Rattle.common.specs.Answers.{refusal_in, room_refusal}
 use Rattle.common.proofs.Kit.{by_lt}
 use Rattle.scalars.specs.Chars.{are_chars}
 use Rattle.page.specs.Page.{accepted}
-use Rattle.text_input_parts.specs.Refusals.{places_for_chunk, refusal_of, past_limit}
+use Rattle.text_input_parts.specs.Refusals.{places_for_chunk, refusal_of}
 use Rattle.text_input_parts.proofs.Order.{order_of, refusal_order}
 use Rattle.text_input.specs.declared.Options.{Options}
 use Rattle.text_input.specs.declared.TextInput.{TextInput}
@@ -62,8 +62,8 @@ accepts_is count r (chunk_by how page options chunk places) =
     let n = length chunk in
     let room = length places in
     let needed = needs how page options r chunk in
-    ap (λ y. accepted page && (are_chars chunk && (not (past_limit count n) && y))) (enough_is how page options r chunk room)
-    ∙ sym (none_by (accepted page) (are_chars chunk) (past_limit count n) (ltb room needed))
+    ap₂ (λ x y. accepted page && (are_chars chunk && (x && y))) (leb_is (count + n) 4294967295) (enough_is how page options r chunk room)
+    ∙ sym (none_by (accepted page) (are_chars chunk) (ltb 4294967295 (count + n)) (ltb room needed))
     ∙ sym (ap (λ k. eqb k 0) (order_of count (accepted page) (are_chars chunk) n needed room))
 accepts_is count r (finish eof places) = leb_is 2 (length places) ∙ eight (ltb (length places) 2)
   where

@@ -28,7 +28,6 @@ use Rattle.check_run.specs.Rules.{Rules, Before, First}
 use Rattle.check_run.specs.Check.{yes_numbers, check_run_of, Says}
 use Rattle.check_run.proofs.Laws.{says}
 use Rattle.check_run.proofs.Answers.{check_run_order}
-use Rattle.text_input_parts.specs.Refusals.{past_limit}
 use Rattle.text_input.specs.Pieces.{start_mark, end_mark}
 use Rattle.text_input.proofs.Refusals.{scan_order}
 use Rattle.text_output.proofs.Writable.{writable}
@@ -180,5 +179,5 @@ same_first a c n m e f = rw (e, f)
 pub refused_as_scan : RefusedAsScan
 refused_as_scan page run r options places counted fits =
     check_run_order page run
-    ∙ same_first (accepted page) (are_chars run) (past_limit r.count (length run)) (ltb 0 (length run) && ltb (length places) (3 * length run + 1)) counted (rw (le-ltb _ _ fits) (and-false (ltb 0 (length run))))
+    ∙ same_first (accepted page) (are_chars run) (ltb 4294967295 (r.count + length run)) (ltb 0 (length run) && ltb (length places) (3 * length run + 1)) (le-ltb _ _ counted) (rw (le-ltb _ _ fits) (and-false (ltb 0 (length run))))
     ∙ sym (scan_order r page options run places)

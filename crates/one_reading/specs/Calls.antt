@@ -1,13 +1,12 @@
 -- A list of calls on a scanner's record, and what a caller sees of it. Document 01, "Agreed between us": "Demand 3 is one statement
 -- about the whole list of calls, and not a statement for each call."; commits are of document 02, A.4.
-use Rattle.std.specs.Prelude.{ℕ, ◌+◌, ◌*◌, Bool, true, cond, not, ◌&&◌, ◌||◌, ◌≡◌, eqb, leb, length}
+use Rattle.std.specs.Prelude.{ℕ, ◌+◌, ◌*◌, Bool, true, cond, ◌&&◌, ◌||◌, ◌≡◌, eqb, leb, length}
 use mathlib.Core.List.{List, [], ◌∷◌, ◌++◌, flatten}
 use Rattle.text_input.specs.declared.Options.{Options}
 use Rattle.text_input.specs.declared.TextInput.{TextInput}
 use Rattle.common.specs.Answers.{wrote_in}
 use Rattle.scalars.specs.Chars.{are_chars}
 use Rattle.page.specs.Page.{accepted}
-use Rattle.text_input_parts.specs.Refusals.{past_limit}
 use Rattle.text_input.specs.Scan.{Outcome, fresh, scan_chars, scan_next, scan_of, finish_next, finish_of}
 use Rattle.text_input.specs.Streams.{without_bom_first}
 use Rattle.text_input_price.specs.Price.{commit_of}
@@ -57,11 +56,11 @@ enough commit page options r chunk room = leb (length (scan_chars page options r
 -- "The refusal conditions alone decide which calls are accepted, with the number of characters in the chunks accepted so far as the
 -- count." They are written out, and not asked of the calls; `accepts_told` (proofs/Accepts.antt) says that the calls go by them. The
 -- record is the one that the accepted calls lead to.
--- A chunk: the page is accepted, every value is a character, count and chunk are within their limits, and the places are enough. A
--- finish: "Free places needed: 2."
+-- A chunk: the page is accepted, every value is a character, the count does not pass 4,294,967,295, and the places are enough. A finish:
+-- "Free places needed: 2."
 abbrev pub accepts : ℕ → TextInput → Call → Bool
 accepts count r (chunk_by how page options chunk places) =
-    accepted page && (are_chars chunk && (not (past_limit count (length chunk)) && enough how page options r chunk (length places)))
+    accepted page && (are_chars chunk && (leb (count + length chunk) 4294967295 && enough how page options r chunk (length places)))
 accepts count r (finish eof places) = leb 2 (length places)
 
 -- the count with an accepted call's characters

@@ -1,13 +1,12 @@
 -- The check of a run (document 02, A.1) between scanner and writer: what a stream that is finished once, as end of file, leaves in its
 -- queue gets yes, what gets yes passes a plain writer, start and end faults are where the scanner puts 34F, and pages and values are
 -- refused as by a scan.
-use Rattle.std.specs.Prelude.{ℕ, ◌+◌, ◌*◌, ◌≤◌, true, false, List, [], ◌∷◌, ◌≡◌, length}
+use Rattle.std.specs.Prelude.{ℕ, ◌+◌, ◌*◌, ◌≤◌, true, List, [], ◌∷◌, ◌≡◌, length}
 use Rattle.common.specs.Answers.{refusal_in}
 use Rattle.page.specs.Page.{accepted}
 use Rattle.isolate_unassigned.specs.Meaning.{isolated}
 use Rattle.check_run.specs.declared.FaultKind.TheVariants.{Start, End, Newline}
 use Rattle.check_run.specs.Check.{yes_numbers, fault_numbers, check_run_of}
-use Rattle.text_input_parts.specs.Refusals.{past_limit}
 use Rattle.text_input.specs.declared.Options.{Options}
 use Rattle.text_input.specs.declared.TextInput.{TextInput}
 use Rattle.text_input.specs.Scan.{Outcome, fresh, scan_of}
@@ -44,5 +43,5 @@ pub record MarkedAsScanner (page run answer : List ℕ) : Type 0 where
 abbrev pub RefusedAsScan : Type 0
 RefusedAsScan =
     (page run : List ℕ) → (r : TextInput) (options : Options) (places : List ℕ) →
-    past_limit r.count (length run) ≡ false → 3 * length run + 1 ≤ length places →
+    r.count + length run ≤ 4294967295 → 3 * length run + 1 ≤ length places →
     refusal_in (check_run_of page run) ≡ refusal_in (scan_of r page options run places).numbers

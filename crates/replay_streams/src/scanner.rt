@@ -1,11 +1,10 @@
 // The operations `S ..`: calls on the current scanner, whose record comes in and goes out by value.
 use basic_text_numbers::state_number;
 use replay_words::answer::Why;
-use replay_words::words::{Single, Stored, WideSingle};
+use replay_words::words::{Single, Stored};
 use replay_words::{NUMBERS, PLACES, answer, blank, front, words};
 use text_input::{Options, Scanned, TextInput};
 use text_input_price::{Price, ask, commit};
-use text_input_saved::{Narrowed, narrow, widen};
 
 // The current scanner after a line, and how many bytes of answers wait then.
 #[derive(Drop)]
@@ -30,7 +29,7 @@ fn told(scanner: TextInput, out: &mut [u8], at: usize) -> Answered {
         answer::bit(scanner.expect_starter),
         answer::bit(scanner.at_start),
         answer::bit(text_utils::is_basic_text_end(scanner.last)),
-        scanner.count,
+        scanner.count as u64,
     ];
     Answered {
         scanner,
@@ -47,39 +46,16 @@ fn came(scanned: Scanned, places: &[u32], out: &mut [u8], at: usize) -> Answered
 }
 
 // `S count N`, with the number given.
-fn count(given: WideSingle, scanner: TextInput, out: &mut [u8], at: usize) -> Answered {
+fn count(given: Single, scanner: TextInput, out: &mut [u8], at: usize) -> Answered {
     match given {
-        WideSingle::Bad(why) => refuse(scanner, out, at, why),
-        WideSingle::Is(n) => {
+        Single::Bad(why) => refuse(scanner, out, at, why),
+        Single::Is(n) => {
             let mut next = scanner;
             next.count = n;
             let end = answer::text(out, at, b"count");
             told(next, out, end)
         }
     }
-}
-
-// The record goes back to a saved one, which is read in again.
-fn back_and_there(scanner: TextInput, out: &mut [u8], at: usize) -> Answered {
-    match narrow(scanner) {
-        Narrowed::Saved(saved) => {
-            let next = widen(saved);
-            let end = answer::text(out, at, b"ok");
-            told(next, out, end)
-        }
-        Narrowed::Refused(number) => {
-            let end = answer::refusal(out, at, number);
-            told(scanner, out, end)
-        }
-    }
-}
-
-// `S narrow`, where nothing stands after it.
-fn narrowed(is_whole: bool, scanner: TextInput, out: &mut [u8], at: usize) -> Answered {
-    if is_whole {
-        return back_and_there(scanner, out, at);
-    }
-    refuse(scanner, out, at, Why::Word)
 }
 
 // The options by their number.
@@ -251,7 +227,7 @@ pub fn operate(
 ) -> Answered {
     let found = words::which(
         line,
-        b"S scan\nS commit\nS ask\nS fin p\nS fin e\nS count\nS new\nS narrow\n",
+        b"S scan\nS commit\nS ask\nS fin p\nS fin e\nS count\nS new\n",
     );
     let number = found.number;
     let place = found.place;
@@ -273,9 +249,8 @@ pub fn operate(
             out,
             at,
         ),
-        5 => count(words::one_wide_number(line, place), scanner, out, at),
+        5 => count(words::one_number(line, place), scanner, out, at),
         6 => new(place == line.len(), scanner, out, at),
-        7 => narrowed(place == line.len(), scanner, out, at),
         _ => refuse(scanner, out, at, Why::Word),
     }
 }

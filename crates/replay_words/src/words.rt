@@ -63,17 +63,17 @@ fn digit(b: u8) -> u32
     }
 }
 
-// A number of 64 bits and the place where it ends, or that none stands there.
+// A number and the place where it ends, or that none stands there.
 #[derive(Drop)]
-pub enum WideValue {
-    Is(u64, usize),
+pub enum Value {
+    Is(u32, usize),
     No,
 }
 
 // The number whose first digit is at index from: not an empty word, one with another byte than a
-// digit, or one above ffffffffffffffff.
-pub fn wide_number(line: &[u8], from: usize) -> WideValue {
-    let mut value: u64 = 0;
+// digit, or one above ffffffff.
+pub fn number(line: &[u8], from: usize) -> Value {
+    let mut value: u32 = 0;
     let mut i = from;
     while i < line.len() {
         let b = line[i];
@@ -82,36 +82,18 @@ pub fn wide_number(line: &[u8], from: usize) -> WideValue {
         }
         let d = digit(b);
         if d > 15 {
-            return WideValue::No;
+            return Value::No;
         }
-        if value > 0x0fff_ffff_ffff_ffff {
-            return WideValue::No;
+        if value > 0x0fff_ffff {
+            return Value::No;
         }
-        value = value * 16 + d as u64;
+        value = value * 16 + d;
         i += 1;
     }
     if i == from {
-        return WideValue::No;
-    }
-    WideValue::Is(value, i)
-}
-
-// A number and the place where it ends, or that none stands there.
-#[derive(Drop)]
-pub enum Value {
-    Is(u32, usize),
-    No,
-}
-
-// The same, where one above ffffffff is no number.
-pub fn number(line: &[u8], from: usize) -> Value {
-    let WideValue::Is(value, end) = wide_number(line, from) else {
-        return Value::No;
-    };
-    if value > 0xffff_ffff {
         return Value::No;
     }
-    Value::Is(value as u32, end)
+    Value::Is(value, i)
 }
 
 // The number after a place.
@@ -142,25 +124,6 @@ pub fn one_number(line: &[u8], place: usize) -> Single {
         }
     }
     Single::Bad(Why::Number)
-}
-
-// The one number of an operation that takes 64 bits, or why there is none.
-#[derive(Drop)]
-pub enum WideSingle {
-    Is(u64),
-    Bad(Why),
-}
-
-// The number of 64 bits from a place to the line's end.
-pub fn one_wide_number(line: &[u8], place: usize) -> WideSingle {
-    if place < line.len() {
-        if let WideValue::Is(value, end) = wide_number(line, place + 1) {
-            if end == line.len() {
-                return WideSingle::Is(value);
-            }
-        }
-    }
-    WideSingle::Bad(Why::Number)
 }
 
 // A number and whether an option is on, or why neither stands there.

@@ -18,7 +18,7 @@ use Rattle.common.proofs.Kit.{never, split}
 use Rattle.common.proofs.Lists.{drop_sets}
 use Rattle.scalars.specs.Chars.{are_chars}
 use Rattle.page.specs.Page.{accepted}
-use Rattle.text_input_parts.specs.Refusals.{places_for_chunk, past_limit}
+use Rattle.text_input_parts.specs.Refusals.{places_for_chunk}
 use Rattle.text_input_parts.proofs.Passed.{passed}
 use Rattle.text_input_parts.proofs.Order.{refusal_order}
 use Rattle.text_input.specs.declared.Options.{Options}
@@ -39,7 +39,7 @@ module _ (r : TextInput) (p : List ℕ) (o : Options) (chunk queue : List ℕ) w
   -- "Order: 2, 1, 10, 8."
   pub scan_order : refusal_in (scan_of r p o chunk queue).numbers
       ≡ first_of (
-      2 when not (accepted p) ∷ 1 when not (are_chars chunk) ∷ 10 when past_limit r.count (length chunk)
+      2 when not (accepted p) ∷ 1 when not (are_chars chunk) ∷ 10 when ltb 4294967295 (r.count + length chunk)
       ∷ 8 when (ltb 0 (length chunk) && ltb (length queue) (3 * length chunk + 1)) ∷ []
       )
   scan_order = answered ∙ refusal_order r.count (accepted p) (are_chars chunk) (length chunk) (length queue)

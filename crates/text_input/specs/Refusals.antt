@@ -11,7 +11,7 @@ pub record ScanLeaves (r : TextInput) (chunk queue : List ℕ) (left : Outcome) 
   pub nothing : ltb 0 (refusal_in left.numbers) ≡ true → (left.next ≡ r) × (left.places ≡ queue)
   -- "An empty first call spends that chance.": as does every accepted one
   pub spends : eqb (refusal_in left.numbers) 0 ≡ true → left.next.at_start ≡ false
-  -- "The record holds a .. count of characters taken, dropped ones included."
+  -- "The record holds a 32-bit count of characters taken, dropped ones included."
   pub counts : eqb (refusal_in left.numbers) 0 ≡ true → left.next.count ≡ r.count + length chunk
   -- the number written is at most that of the places
   pub fits : written_in left.numbers ≤ length queue

@@ -12,7 +12,7 @@ ghost use Rattle.std.proofs.lemmas.List.Edits.{sets};
 ghost use Rattle.page.specs.Page.{accepted};
 ghost use Rattle.stretch.specs.Plain.{Gap};
 ghost use Rattle.text_input_parts.specs.Appended.{stored_if, limit_of};
-ghost use Rattle.text_input_parts.specs.Refusals.{max_count, max_chunk};
+ghost use Rattle.text_input_parts.specs.Refusals.{max_count};
 ghost use Rattle.text_input.specs.Step.{scan_step_of, out_chars};
 ghost use Rattle.text_input.specs.Scan.{fresh, all_off, step_effect, run_of, skipped, opened, outcome, scan_of, pending_of, after_line, finish_chars, finish_next, finish_of};
 ghost use Rattle.text_input.specs.Inner.{outs, grounded, steady, passed_by, ran_by, Moves, ending_chars};
@@ -79,7 +79,7 @@ pub struct TextInput {
     // The last character ever appended. Before the first it is 0A, which is an end.
     pub last: u32,
     // The characters taken, a dropped FEFF included.
-    pub count: u64,
+    pub count: u32,
 }
 
 // A call's answer, and the record after it.
@@ -118,10 +118,8 @@ impl TextInput {
     // The least size of a byte buffer to fill, which `text_input_fill` tests: 136.
     pub const NORMALIZATION_BUFFER_SIZE: usize = scalars::NORMALIZATION_BUFFER_SIZE;
 
-    // The most characters that the count holds, and the most of one chunk.
-    pub const MAX_COUNT: u64 = refusals::MAX_COUNT;
-
-    pub const MAX_CHUNK: usize = refusals::MAX_CHUNK;
+    // The most characters that the count holds.
+    pub const MAX_COUNT: usize = refusals::MAX_COUNT;
 
     // A record as first made.
     pub fn new() -> Self
@@ -266,11 +264,11 @@ impl TextInput {
         self.go(page, options, chunk, true, queue)
     }
 
-    // How many places a run of characters fills; nothing is stored. Inner: asks for an accepted page, and for no more characters than a
-    // chunk has at most, so that the sum cannot wrap.
+    // How many places a run of characters fills; nothing is stored. Inner: asks for an accepted page, and for no more characters than the
+    // count can hold, so that the sum cannot wrap.
     pub fn run_places(self, page: &[u32], options: Options, chunk: &[u32]) -> usize
         requires page_value { accepted page.now ≡ true }
-        requires chunk_len_bound { length chunk.now ≤ max_chunk }
+        requires chunk_len_bound { length chunk.now ≤ max_count }
         ensures { result ≡ length (outs page.now options self chunk.now) }
     {
         let mut none = [0u32; 1];
@@ -294,7 +292,7 @@ impl TextInput {
     }
 
     // The record of an accepted scan of n characters, before the first of them. Inner: asks that the count stays within its limit.
-    pub fn open(self, n: u64) -> Self
+    pub fn open(self, n: u32) -> Self
         requires { self.count + n ≤ max_count }
         ensures { result ≡ opened self n }
     {
@@ -322,7 +320,7 @@ impl TextInput {
         );
         if no == 0 {
             let from = self.skips(chunk);
-            let r = self.open(chunk.len() as u64);
+            let r = self.open(chunk.len() as u32);
             let ran = r.run(page, options, &chunk[from..chunk.len()], queue);
             let next = ran.next;
             Scanned {

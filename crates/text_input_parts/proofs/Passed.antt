@@ -3,22 +3,20 @@
 --     passed                      and both together
 --     with_room                   and where the places are enough, the first half is the whole
 use mathlib.Core.Path.{◌≡◌, refl, sym}
-use mathlib.Core.Bool.{Bool, true, false, cond, not, ◌||◌}
+use mathlib.Core.Bool.{Bool, true, false, cond, not}
 use Prim.Native.Nat.{ℕ, ◌+◌, ◌≤◌}
 use native.Mathlib.Omega.{arith}
 use borrow.Author.Tests.{le-ltb, ltb-false, eqb-true, eqb-false}
 use lib.Dec.{eqb, ltb}
 use Rattle.common.proofs.Kit.{by}
 use Rattle.common.specs.Answers.{room_refusal}
-use Rattle.text_input_parts.specs.Refusals.{max_count, max_chunk, chunk_refusal, refusal_of}
+use Rattle.text_input_parts.specs.Refusals.{max_count, chunk_refusal, refusal_of}
 
-tests_passed : (a b d e : Bool) → ◌≡◌ {A = ℕ} (cond (not a) 2 (cond (not b) 1 (cond (d || e) 10 0))) 0 →
-    (a ≡ true) × (b ≡ true) × (d ≡ false) × (e ≡ false)
-tests_passed true true false false h = (refl, refl, refl, refl)
-tests_passed true true false true h = absurd (omega arith)
-tests_passed true true true e h = absurd (omega arith)
-tests_passed true false d e h = absurd (omega arith)
-tests_passed false b d e h = absurd (omega arith)
+tests_passed : (a b d : Bool) → ◌≡◌ {A = ℕ} (cond (not a) 2 (cond (not b) 1 (cond d 10 0))) 0 → (a ≡ true) × (b ≡ true) × (d ≡ false)
+tests_passed true true false h = (refl, refl, refl)
+tests_passed true true true h = absurd (omega arith)
+tests_passed true false d h = absurd (omega arith)
+tests_passed false b d h = absurd (omega arith)
 
 both_none : (a b : ℕ) → cond (eqb a 0) b a ≡ 0 → (a ≡ 0) × (b ≡ 0)
 both_none a b h =
@@ -29,13 +27,12 @@ pub record ChunkPassed (count : ℕ) (page chars : Bool) (n : ℕ) : Type 0 wher
   pub right_page : page ≡ true
   pub are_chars_lem : chars ≡ true
   pub counts : count + n ≤ max_count
-  pub few : n ≤ max_chunk
 
 pub chunk_passed : (count : ℕ) (page chars : Bool) (n : ℕ) → chunk_refusal count page chars n ≡ 0 → ChunkPassed count page chars n
 unfolding chunk_refusal
 chunk_passed count page chars n h =
-    let t = tests_passed page chars (ltb max_count (count + n)) (ltb max_chunk n) h in
-    record { right_page = t.0; are_chars_lem = t.1; counts = ltb-false max_count (count + n) t.2; few = ltb-false max_chunk n t.3 }
+    let t = tests_passed page chars (ltb max_count (count + n)) h in
+    record { right_page = t.0; are_chars_lem = t.1; counts = ltb-false max_count (count + n) t.2 }
 
 pub room_passed : (needed room : ℕ) → room_refusal needed room ≡ 0 → needed ≤ room
 room_passed needed room h =

@@ -4,7 +4,6 @@ use Rattle.common.specs.Answers.{refusal_in, written_in, wrote_in}
 use Rattle.common.specs.Order.{◌when◌, first_of}
 use Rattle.scalars.specs.Chars.{are_chars}
 use Rattle.page.specs.Page.{accepted}
-use Rattle.text_input_parts.specs.Refusals.{past_limit}
 use Rattle.text_input.specs.declared.Options.{Options}
 use Rattle.text_input.specs.declared.TextInput.{TextInput}
 use Rattle.text_input.specs.Scan.{Outcome, refused, scan_chars, scan_of}
@@ -23,7 +22,7 @@ pub record Asks (r : TextInput) (p : List ℕ) (o : Options) (chunk answer : Lis
   pub as_scan : (places : List ℕ) → Enough chunk places → answer ≡ (scan_of r p o chunk places).numbers
   -- "Asking changes nothing and is refused by 2, 1 and 10 as a scan is.": in that order, and by no other number
   pub order : refusal_in answer
-      ≡ first_of (2 when not (accepted p) ∷ 1 when not (are_chars chunk) ∷ 10 when past_limit r.count (length chunk) ∷ [])
+      ≡ first_of (2 when not (accepted p) ∷ 1 when not (are_chars chunk) ∷ 10 when ltb 4294967295 (r.count + length chunk) ∷ [])
   -- never more than a plain scan asks for, and none for an empty chunk
   pub most : written_in answer ≤ 3 * length chunk + 1
   pub none : length chunk ≡ 0 → written_in answer ≡ 0
@@ -48,7 +47,7 @@ pub record Commits (r : TextInput) (p : List ℕ) (o : Options) (chunk answer qu
   -- "A commit is refused as a scan is and in that order": "Order: 2, 1, 10, 8." of document 01, with 8 for too few
   pub order : refusal_in left.numbers
       ≡ first_of (
-      2 when not (accepted p) ∷ 1 when not (are_chars chunk) ∷ 10 when past_limit r.count (length chunk)
+      2 when not (accepted p) ∷ 1 when not (are_chars chunk) ∷ 10 when ltb 4294967295 (r.count + length chunk)
       ∷ 8 when ltb (length queue) (length (scan_chars p o r chunk)) ∷ []
       )
   -- what each refusal and each success leaves is what a scan's leaves: the places past those filled are unchanged, and an accepted

@@ -25,7 +25,7 @@ pub fn ask(r: TextInput, page: &[u32], options: Options, chunk: &[u32]) -> Price
     let no = chunk_refusal(r.count, is_accepted(page), are_chars(chunk), chunk.len());
     if no == 0 {
         let from = r.skips(chunk);
-        let opened = r.open(chunk.len() as u64);
+        let opened = r.open(chunk.len() as u32);
         Price::Places(opened.run_places(page, options, &chunk[from..chunk.len()]))
     } else {
         Price::Refused(no)
@@ -57,7 +57,7 @@ pub fn commit(
                 };
             }
             let from = r.skips(chunk);
-            let opened = r.open(chunk.len() as u64);
+            let opened = r.open(chunk.len() as u32);
             let ran = opened.run(page, options, &chunk[from..chunk.len()], queue);
             let next = ran.next;
             Scanned {

@@ -78,20 +78,18 @@ fn finish(sides: &mut Sides, random: &mut Random, record: Record) -> Outcome {
 
 fn scan(sides: &mut Sides, random: &mut Random, record: Record) -> Outcome {
     let chunk = if random.once_in(50) { alphabet::run(random, LONG) } else { chunk(random) };
-    let count = count(random, record.count, chunk.len() as u64);
+    let count = count(random, record.count, chunk.len() as u32);
     let room = 4 * alphabet::room(random, needed(&chunk)) as usize + odd(random);
     let call = Call::Scan(random.between(0, 7), &chunk, &[0x0A, 0x0D, 0xD8][..odd(random)]);
     sides.call(Record { count, ..record }, call, room)
 }
 
-/// The count before a chunk of n: mostly as it stands; the limit, one past it, 2^32 - 1, one past it, and small ones again.
-fn count(random: &mut Random, count: u64, n: u64) -> u64 {
+/// The count before a chunk of n: mostly as it stands; the limit, one past it, and small ones again.
+fn count(random: &mut Random, count: u32, n: u32) -> u32 {
     match random.below(40) {
-        0 => u64::MAX - n,
-        1 => (u64::MAX - n).saturating_add(1),
-        2 => u64::from(u32::MAX) - n,
-        3 => u64::from(u32::MAX) - n + 1,
-        4..=9 => u64::from(random.between(0, 9)),
+        0 => u32::MAX - n,
+        1 => (u32::MAX - n).saturating_add(1),
+        2..=9 => random.between(0, 9),
         _ => count,
     }
 }

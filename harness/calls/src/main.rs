@@ -7,7 +7,6 @@
 
 #![deny(unsafe_code)]
 
-mod counts;
 mod forged;
 mod forged_writers;
 mod lists;
@@ -25,8 +24,7 @@ use stretches::Step;
 use writer_sides::WriterSides;
 
 /// What is walked: texts of up to so many characters, with pushes of up to so many, and the characters that stand alone;
-/// whether every string of three bytes is written; one in so many of the stretches, so many chunks of thousands, and whether chunks of
-/// 2^32 characters are.
+/// whether every string of three bytes is written; one in so many of the stretches, and so many chunks of thousands.
 struct Extent {
     texts: usize,
     pushed: usize,
@@ -34,7 +32,6 @@ struct Extent {
     strings: bool,
     step: usize,
     chunks: u64,
-    longest: bool,
 }
 
 fn main() -> ExitCode {
@@ -57,24 +54,8 @@ fn asked(words: &[String]) -> Option<(Extent, u64, u64)> {
         return None;
     };
     let extent = match form.as_str() {
-        "short" => Extent {
-            texts: 3,
-            pushed: 3,
-            alone: texts::bounds(),
-            strings: false,
-            step: 97,
-            chunks: 10_000,
-            longest: false,
-        },
-        "long" => Extent {
-            texts: 5,
-            pushed: 4,
-            alone: texts::characters(),
-            strings: true,
-            step: 1,
-            chunks: 300_000,
-            longest: true,
-        },
+        "short" => Extent { texts: 3, pushed: 3, alone: texts::bounds(), strings: false, step: 97, chunks: 10_000 },
+        "long" => Extent { texts: 5, pushed: 4, alone: texts::characters(), strings: true, step: 1, chunks: 300_000 },
         _ => return None,
     };
     Some((extent, seed.parse().ok()?, count.parse().ok()?))
@@ -82,7 +63,6 @@ fn asked(words: &[String]) -> Option<(Extent, u64, u64)> {
 
 fn compare(extent: &Extent, seed: u64, count: u64) -> Result<(), String> {
     compare_scanner(&mut Sides::new(), extent, seed, count)?;
-    compare_counts(extent, seed, count)?;
     compare_writer(&mut WriterSides::new(), extent, seed, count)
 }
 
@@ -103,20 +83,6 @@ fn compare_scanner(sides: &mut Sides, extent: &Extent, seed: u64, count: u64) ->
     told.part(&mut sides.answers, &of_stretches("stretches, something awkward at every place", extent.step))?;
     stretches::long_chunks(sides, seed, extent.chunks)?;
     told.part(&mut sides.answers, "chunks of thousands")?;
-    told.all_met()
-}
-
-fn compare_counts(extent: &Extent, seed: u64, count: u64) -> Result<(), String> {
-    let mut told = Told::new(&[2, 1, 10, 8, 16]);
-    let answers = &mut [0; NUMBERS];
-    counts::refusals(answers, seed, count / 5)?;
-    told.part(answers, "refusals by counts and lengths")?;
-    if extent.longest {
-        counts::longest_chunk(answers)?;
-        told.part(answers, "chunks of 2^32 characters, one less and one more")?;
-    }
-    counts::saved_records(answers)?;
-    told.part(answers, "records taken back and read in")?;
     told.all_met()
 }
 

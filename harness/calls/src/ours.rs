@@ -1,5 +1,5 @@
-//! The port's scanner, its byte write and its saved records: the exports of the crate `basic_text` as safe functions. Characters, the
-//! numbers of the page and the places of the queue are four bytes each, the low byte first.
+//! The port's scanner and its byte write: the exports of the crate `basic_text` as safe functions. Characters, the numbers
+//! of the page and the places of the queue are four bytes each, the low byte first.
 
 /// A record as it crosses. A state over 8 is as 0; a flag is true where it is not 0.
 #[repr(C)]
@@ -9,31 +9,12 @@ pub struct Record {
     pub expect_starter: u32,
     pub at_start: u32,
     pub last: u32,
-    pub count: u64,
+    pub count: u32,
 }
 
 impl Record {
     /// "A fresh record is one as first made".
     pub const FRESH: Self = Self { state: 1, expect_starter: 1, at_start: 1, last: 0x0A, count: 0 };
-}
-
-/// A record saved with the 32-bit count, as it crosses.
-#[repr(C)]
-#[derive(Clone, Copy, Debug, PartialEq, Eq)]
-pub struct Record32 {
-    pub state: u32,
-    pub expect_starter: u32,
-    pub at_start: u32,
-    pub last: u32,
-    pub count: u32,
-}
-
-/// The number of the refusal, 0 where the record goes back; the record to save, zeros where there is none.
-#[repr(C)]
-#[derive(Clone, Copy, Debug, PartialEq, Eq)]
-pub struct NarrowReply {
-    pub refused: u32,
-    pub record: Record32,
 }
 
 /// The number of the refusal, 0 where the call is accepted; how many characters are written; the record after the call.
@@ -88,7 +69,7 @@ pub struct WriteReply {
 // A lent slice crosses as its first place and its length; nothing is kept after the call. The functions are proved total:
 // they reach only the places that are lent to them. No other slice has those of the queue.
 mod linked {
-    use super::{NarrowReply, Record, Record32, Reply, WriteReply, Writer};
+    use super::{Record, Reply, WriteReply, Writer};
 
     extern "C" {
         pub fn basic_text_scan(
@@ -102,9 +83,6 @@ mod linked {
             queue_length: usize,
         ) -> Reply;
         pub fn basic_text_finish(record: Record, end_of_file: u32, queue: *mut u8, queue_length: usize) -> Reply;
-        pub fn basic_text_refusal(count: u64, page: u32, chars: u32, n: usize, room: usize) -> u32;
-        pub fn basic_text_widen(saved: Record32) -> Record;
-        pub fn basic_text_narrow(record: Record) -> NarrowReply;
         pub fn basic_text_write(
             writer: Writer,
             page: *const u8,
@@ -135,20 +113,6 @@ pub fn scan(record: Record, page: &[u8], options: u32, chunk: &[u8], queue: &mut
 
 pub fn finish(record: Record, end_of_file: u32, queue: &mut [u8]) -> Reply {
     unsafe { linked::basic_text_finish(record, end_of_file, queue.as_mut_ptr(), queue.len()) }
-}
-
-/// By which number a scan of n characters is refused, or 0: by the count, whether the page is accepted and every value is a character,
-/// 0 for no, and the number of places.
-pub fn refusal(count: u64, page: u32, chars: u32, n: usize, room: usize) -> u32 {
-    unsafe { linked::basic_text_refusal(count, page, chars, n, room) }
-}
-
-pub fn widen(saved: Record32) -> Record {
-    unsafe { linked::basic_text_widen(saved) }
-}
-
-pub fn narrow(record: Record) -> NarrowReply {
-    unsafe { linked::basic_text_narrow(record) }
 }
 
 /// The queue's first places hold the kept characters.

@@ -17,7 +17,7 @@ pub const PAST: usize = 8;
 pub const BLANK: u8 = 0xEE;
 
 /// The numbers of the refusals that a call gives are below this one.
-pub const NUMBERS: usize = 17;
+pub const NUMBERS: usize = 11;
 
 /// The record after a call, or the difference.
 pub type Outcome = Result<Record, String>;
@@ -161,7 +161,7 @@ impl Sides {
 }
 
 /// The record that the numbers mean. A last one that is no character is an end, as 0A is: no list has it.
-pub fn meaning(record: Record) -> scanner::Record {
+fn meaning(record: Record) -> scanner::Record {
     scanner::Record {
         state: record.state,
         expect_starter: record.expect_starter != 0,

@@ -82,7 +82,6 @@ impl Seen {
                 self.signs = false;
             }
             ["S", "fin"] => self.queue.extend(listed(answer)),
-            ["S", "narrow"] => {}
             ["S", _] => {
                 self.units = has_option(operation);
                 self.signs |= answer.starts_with("ok") && has_units(operation);

@@ -1,6 +1,6 @@
 //! The cases that document 01 names for the leaves, the scanner and filling, its corners, those of asking and committing, of the signs
-//! for units, of the generator and of the count (document 02, A.4 to A.7), and the original's own tests, as one fixed script. Each stands
-//! under its name.
+//! for units and of the generator (document 02, A.4, A.5 and A.6), and the original's own tests, as one fixed script. Each stands under
+//! its name.
 
 use super::operation;
 
@@ -8,8 +8,7 @@ use super::operation;
 pub type Case = (&'static str, &'static [&'static str]);
 
 pub fn script() -> Vec<String> {
-    let mut lines =
-        under_names(&[&CHECKED[..], &RUN, &WRONG, &LEAVES, &SCANS, &UNITS, &TESTS, &GENERATOR, &COUNTS].concat());
+    let mut lines = under_names(&[&CHECKED[..], &RUN, &WRONG, &LEAVES, &SCANS, &UNITS, &TESTS, &GENERATOR].concat());
     lines.extend(long_queues());
     lines
 }
@@ -116,7 +115,7 @@ const SCANS: [Case; 13] = [
         "the count at its limit",
         &[
             "S new",
-            "S count fffffffffffffffe",
+            "S count fffffffe",
             "S scan 0 7 61 61",
             "S scan 0 3 61",
             "S scan 0 4 61",
@@ -211,7 +210,7 @@ const SCANS: [Case; 13] = [
         "the refusals of asking and committing, in their order",
         &[
             "S new",
-            "S count ffffffffffffffff",
+            "S count ffffffff",
             "P 0 0",
             "S ask 0 d800",
             "S commit 0 0 d800",
@@ -402,7 +401,7 @@ const UNITS: [Case; 11] = [
             "L check 2126 1",
             FIRST_PAGE,
             "S ask 4 d800",
-            "S count ffffffffffffffff",
+            "S count ffffffff",
             "S ask 4 2126",
             "S commit 4 0 2126",
             "S scan 4 4 2126",
@@ -451,103 +450,6 @@ const GENERATOR: [Case; 5] = [
     (
         "back from the greatest state, the least, and beside the number that is added",
         &["G back ffffffff", "G back 1", "G back 80000000", "G back 3c6ef35e", "G back 3c6ef360"],
-    ),
-];
-
-/// The count of 64 bits, and the saved record with one of 32, of document 02, A.7.
-const COUNTS: [Case; 7] = [
-    (
-        "the count passes 2^32 - 1",
-        &[
-            "S new",
-            "S count fffffffe",
-            "S scan 0 a 61 61 61",
-            "S ask 0 61",
-            "S commit 0 1 61",
-            "S fin e 2",
-            "S count ffffffff",
-            "S scan 0 4 feff",
-            "S fin e 2",
-        ],
-    ),
-    (
-        "the count reaches 2^64 - 1, by scans, asking and committing alike",
-        &[
-            "S new",
-            "S count fffffffffffffffd",
-            "S ask 0 61 61 61",
-            "S commit 0 3 61 61 61",
-            "S scan 0 a 61 61 61",
-            "S ask 0 61 61",
-            "S commit 0 2 61 61",
-            "S ask 0 61",
-            "S commit 0 1 61",
-            "S scan 0 0",
-            "S fin e 2",
-        ],
-    ),
-    (
-        "a record goes back up to 2^32 - 1, and no further; refused, it goes on as it was",
-        &[
-            "S new",
-            "S scan 0 4 d",
-            "S count ffffffff",
-            "S narrow",
-            "S scan 0 4 a",
-            "S narrow",
-            "S scan 0 4 61",
-            "S count ffffffffffffffff",
-            "S narrow",
-            "S fin e 2",
-            "S count 0",
-            "S narrow",
-        ],
-    ),
-    (
-        "a fresh record goes back, and still drops FEFF",
-        &["S new", "S narrow", "S scan 0 7 feff 61", "S narrow", "S scan 0 4 feff", "S fin e 2"],
-    ),
-    (
-        "a start is expected behind a push as before, and not elsewhere",
-        &[
-            "S new",
-            "S scan 0 4 61",
-            "S fin p 2",
-            "S narrow",
-            "S scan 0 4 301",
-            "S narrow",
-            "S scan 0 4 301",
-            "S fin e 2",
-        ],
-    ),
-    (
-        "what is pending goes back and is read in",
-        &[
-            "S new",
-            "S scan 0 4 d",
-            "S narrow",
-            "S scan 0 4 c",
-            "S narrow",
-            "S scan 0 4 1b",
-            "S narrow",
-            "S scan 0 4 5b",
-            "S narrow",
-            "S scan 0 4 31",
-            "S narrow",
-            "S scan 0 7 6d 1b",
-            "S scan 0 4 5d",
-            "S narrow",
-            "S scan 0 d 61 7 1b 5b",
-            "S scan 0 4 5b",
-            "S narrow",
-            "S scan 0 7 41 62",
-            "S narrow",
-            "S fin e 2",
-        ],
-    ),
-    (
-        "34F after a non-end that was appended before the record went back",
-        &["S new", "S scan 0 4 600", "S narrow", "S fin e 2", "S narrow", "S fin e 2"],
     ),
 ];
 

@@ -1,10 +1,8 @@
-//! Demand 3 from end to end: a text in chunks, scanned or committed, with refused calls between them and the record now and then taken
-//! back to a saved one and read in, finished as end of file;
+//! Demand 3 from end to end: a text in chunks, scanned or committed, with refused calls between them, finished as end of file;
 //! then its queue written whole to a plain writer, which is closed, checked, and isolated as one run. Each text is cut in two ways. In most
 //! passages every call that is to succeed is lent exactly what it needs. The oracle runs along, so that the queue is known;
 //! the program `promise` holds the answers to the promise.
 
-use super::scan::NARROW;
 use super::talk::{commit, Talk};
 use super::{alphabet, operation, page_line};
 use crate::leaves::is_excepted;
@@ -94,9 +92,6 @@ fn taken(random: &mut Random, talk: &mut Talk, page: &[u32], options: u32, text:
             commit(options, places(talk, options, chunk) + over, chunk)
         };
         queue.extend(listed(&talk.say(call)));
-        if random.once_in(6) {
-            talk.say(NARROW.to_owned());
-        }
         rest = after;
     }
     if random.once_in(3) {

@@ -40,16 +40,12 @@ pub const KINDS: [(&str, &str, &[u32]); 19] = [
     ),
     ("leaves", "P, P wrong, L check, L check units, L end, L replace, L replace units, L start", &[1, 2, 4]),
     ("isolate", "P, P wrong, L isolate, L isolate long, L isolate long short", &[1, 2, 8]),
-    (
-        "scan",
-        "P, P wrong, S count, S fin, S narrow, S new, S scan, S scan units, S scan long, S scan long short",
-        &[1, 2, 8, 10, 16],
-    ),
+    ("scan", "P, P wrong, S count, S fin, S new, S scan, S scan units, S scan long, S scan long short", &[1, 2, 8, 10]),
     (
         "price",
-        "P, P wrong, S ask, S ask units, S commit, S commit units, S commit long, S commit long short, S count, S fin, S narrow, S new, \
-         S scan, S scan units",
-        &[1, 2, 8, 10, 16],
+        "P, P wrong, S ask, S ask units, S commit, S commit units, S commit long, S commit long short, S count, S fin, S new, S scan, \
+         S scan units",
+        &[1, 2, 8, 10],
     ),
     ("fill", "F", &[1, 7]),
     ("generator", "G fill, G fill long, G back, 32 picks, 1000000 seeds", &[]),
@@ -68,9 +64,9 @@ pub const KINDS: [(&str, &str, &[u32]); 19] = [
     (
         "cases",
         "P, P wrong, L check, L check units, L end, L isolate, L replace, L replace units, L start, S ask, S ask units, S commit, \
-         S commit units, S count, S fin, S narrow, S new, S scan, S scan units, F, A check yes, A check char, W bytes, W chars, W new, \
+         S commit units, S count, S fin, S new, S scan, S scan units, F, A check yes, A check char, W bytes, W chars, W new, \
          G fill, G back",
-        &[1, 2, 4, 7, 8, 10, 16],
+        &[1, 2, 4, 7, 8, 10],
     ),
     (
         "write",
@@ -85,7 +81,7 @@ pub const KINDS: [(&str, &str, &[u32]); 19] = [
     ),
     (
         "demand",
-        "P, P wrong, S commit, S commit units, S commit long, S fin, S narrow, S new, S scan, S scan units, S scan long, W chars, W chars long, \
+        "P, P wrong, S commit, S commit units, S commit long, S fin, S new, S scan, S scan units, S scan long, W chars, W chars long, \
          W close, W new, L isolate, L isolate long, A check yes, A check char",
         &[1, 2, 4, 8],
     ),
@@ -97,9 +93,9 @@ pub const KINDS: [(&str, &str, &[u32]); 19] = [
     ),
     (
         "real",
-        "P, L isolate, S ask, S ask units, S commit, S commit units, S count, S fin, S narrow, S new, S scan, S scan units, A check yes, \
+        "P, L isolate, S ask, S ask units, S commit, S commit units, S count, S fin, S new, S scan, S scan units, A check yes, \
          A check start, W abandon, W bytes, W chars, W close, W flush, W held, W new, W places",
-        &[1, 3, 4, 5, 6, 8, 9, 10, 11, 12, 13, 16],
+        &[1, 3, 4, 5, 6, 8, 9, 10, 11, 12, 13],
     ),
     ("sample", "P, P wrong, L utf8", &[]),
 ];

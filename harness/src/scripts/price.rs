@@ -1,7 +1,7 @@
 //! Lists of calls on a scanner that ask first and then commit: into as many places as asking answered, one fewer, more, none; with
 //! refused calls, scans and finishes between. The oracle runs along, so that the number is known.
 
-use super::scan::{at_limit, chunk, finish, long_chunk, page, scan_with, small_count, LONGEST, NARROW};
+use super::scan::{at_limit, chunk, finish, long_chunk, page, scan_with, LONGEST};
 use super::signs::SIGNS;
 use super::talk::{ask, commit, Talk};
 use super::{alphabet, page_line};
@@ -21,8 +21,7 @@ pub fn script(random: &mut Random, count: usize) -> Vec<String> {
 
 fn calls(random: &mut Random, talk: &mut Talk) {
     match random.below(40) {
-        0..=2 => drop(talk.say("S new".to_owned())),
-        3 => drop(talk.say(NARROW.to_owned())),
+        0..=3 => drop(talk.say("S new".to_owned())),
         4 => page_between(random, talk),
         5 => count_at_limit(random, talk),
         6..=9 => drop(talk.say(finish(random))),
@@ -78,13 +77,12 @@ fn page_between(random: &mut Random, talk: &mut Talk) {
     }
 }
 
-/// A count that a chunk takes to its limit or one past it. The record does not go back from there.
+/// A count that a chunk takes to its limit or one past it.
 fn count_at_limit(random: &mut Random, talk: &mut Talk) {
     let (count, chunk) = at_limit(random);
     talk.say(format!("S count {count:x}"));
     price(random, talk, &chunk, alphabet::room);
-    talk.say(NARROW.to_owned());
-    talk.say(small_count(random));
+    talk.say(format!("S count {:x}", random.below(8)));
 }
 
 /// A long chunk that fills the most places that so many characters can: after 0D, three for each and one.

@@ -1,5 +1,5 @@
 //! Lists of calls on a scanner: chunks of every cut and of up to thousands of characters, options that change, finishes, refusals
-//! between them, counts at the limit and around 2^32, and the record taken back to a saved one and read in.
+//! between them, and counts at the limit.
 
 use super::signs::SIGNS;
 use super::{alphabet, operation, page_line, pages};
@@ -24,12 +24,10 @@ fn calls(random: &mut Random) -> Vec<String> {
         0..=4 => vec!["S new".to_owned()],
         5 => pages_between(random),
         6 => count_at_limit(random),
-        7 => vec![small_count(random)],
+        7 => vec![format!("S count {:x}", random.below(8))],
         8..=14 => vec![finish(random)],
         15 => long_scan(random),
         16 => fullest(random),
-        17..=19 => vec![NARROW.to_owned()],
-        20 => around_saved(random),
         _ => {
             let chunk = chunk(random);
             vec![scan(random, &chunk)]
@@ -57,41 +55,16 @@ fn pages_between(random: &mut Random) -> Vec<String> {
     lines
 }
 
-/// The record goes back to a saved one, which is read in.
-pub const NARROW: &str = "S narrow";
-
-/// A count that a chunk takes to 2^64 - 1 or one past it, and the chunk.
-pub fn at_limit(random: &mut Random) -> (u64, Vec<u32>) {
-    up_to(random, u64::MAX)
-}
-
-/// A count that a chunk takes to a limit or one past it, and the chunk.
-fn up_to(random: &mut Random, limit: u64) -> (u64, Vec<u32>) {
+/// A count that a chunk takes to its limit or one past it, and the chunk.
+pub fn at_limit(random: &mut Random) -> (u32, Vec<u32>) {
     let rest = if random.once_in(4) { long_chunk(random) } else { chunk(random) };
     let chunk = [vec![0x61], rest].concat();
-    (limit - chunk.len() as u64 + u64::from(random.between(0, 1)), chunk)
+    (u32::MAX - chunk.len() as u32 + random.between(0, 1), chunk)
 }
 
 fn count_at_limit(random: &mut Random) -> Vec<String> {
     let (count, chunk) = at_limit(random);
-    vec![format!("S count {count:x}"), scan(random, &chunk), small_count(random)]
-}
-
-/// A count from which a chunk passes 2^32 - 1, the most of a saved record, or reaches it, and the record taken back before and behind
-/// the chunk; or one up to four away from there, or from 2^64.
-fn around_saved(random: &mut Random) -> Vec<String> {
-    if random.once_in(3) {
-        let from = random.pick(&[1 << 32, u64::MAX - 3]);
-        let count = from - 4 + u64::from(random.between(0, 7));
-        return vec![format!("S count {count:x}"), NARROW.to_owned(), small_count(random)];
-    }
-    let (count, chunk) = up_to(random, u64::from(u32::MAX));
-    let narrow = NARROW.to_owned();
-    vec![format!("S count {count:x}"), narrow.clone(), scan(random, &chunk), narrow, small_count(random)]
-}
-
-pub fn small_count(random: &mut Random) -> String {
-    format!("S count {:x}", random.below(8))
+    vec![format!("S count {count:x}"), scan(random, &chunk), format!("S count {:x}", random.below(8))]
 }
 
 /// A long chunk, seldom with a value that is no character.

@@ -53,6 +53,7 @@ scan-spec =
     (λ c κs. search rules)
     (λ c κs. search rules)
     (λ c κs. search rules)
+    (λ c. omega (arith, few (scan-asked c.before.before) c.before.if1.true))
     (λ c κs. omega (arith, few (scan-asked c.before.before) c.before.if1.true))
     run-requires
     (λ c. search rules)

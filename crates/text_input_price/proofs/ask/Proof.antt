@@ -42,7 +42,7 @@ run-places-requires : tie.Need-run-places-requires
 run-places-requires c κs =
     let s = c.before.before in
     let h = passed s in
-    (h.right_page, rw rest_is (omega (arith, h.few, length-drop s.skips.result (Entry s.before.before).args.chunk.now)))
+    (h.right_page, rw rest_is (omega (arith, h.counts, length-drop s.skips.result (Entry s.before.before).args.chunk.now)))
 
 returns : tie.Need-returns
 returns c =
@@ -59,6 +59,7 @@ ask-spec =
     (λ c κs. search rules)
     (λ c κs. search rules)
     (λ c κs. search rules)
+    (λ c. omega (arith, (passed c).counts))
     (λ c κs. (passed c).counts)
     (λ c. omega (arith, from_le c))
     (λ c. from_le c)

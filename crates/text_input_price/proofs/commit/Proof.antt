@@ -80,6 +80,7 @@ commit-spec =
     (λ c. search rules)
     returns
     (λ c κs. search rules)
+    (λ c. omega (arith, (passed c).counts))
     (λ c κs. (passed c).counts)
     (λ c. omega (arith, from_le c))
     (λ c. from_le c)

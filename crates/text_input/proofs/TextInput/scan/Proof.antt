@@ -44,6 +44,7 @@ scan-spec =
     (λ c κs. search rules)
     (λ c κs. search rules)
     (λ c κs. search rules)
+    (λ c. omega (arith, counts (asked c.before.before) c.before.if1.true))
     (λ c κs. omega (arith, counts (asked c.before.before) c.before.if1.true))
     (λ c. omega (arith, from_le (asked c.before.before.before) c.before.before.if1.true _ c.before.skips.ensures))
     (λ c. omega (arith, from_le (asked c.before.before.before) c.before.before.if1.true _ c.before.skips.ensures))

@@ -1,4 +1,5 @@
--- `refusal` meets its contract: the second half is asked where the first refuses nothing, and then the chunk is within its limit.
+-- `refusal` meets its contract: the second half is asked where the first refuses nothing, and then the chunk is one that the count can
+-- hold.
 use mathlib.Core.Path.{sym, ◌∙◌}
 use native.Mathlib.Omega.{arith}
 use borrow.Author.Tests.{eq-eqb, ne_eqb}
@@ -12,7 +13,7 @@ places-for-requires : tie.Need-places-for-requires
 places-for-requires c κs =
     let n = c.before in
     let a = n.before.args in
-    omega (arith, (chunk_passed a.count a.page a.chars a.n (sym n.chunk-refusal.ensures ∙ c.if1.true)).few)
+    omega (arith, (chunk_passed a.count a.page a.chars a.n (sym n.chunk-refusal.ensures ∙ c.if1.true)).counts)
 
 returns : tie.Need-returns
 unfolding refusal_of

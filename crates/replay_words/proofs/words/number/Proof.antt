@@ -1,9 +1,9 @@
--- `replay_words::words::wide_number` is safe and ends. The measure is what is left of the line.
+-- `replay_words::words::number` is safe and ends. The measure is what is left of the line.
 use Prim.Native.Nat.{◌-◌}
 use lib.ListN.{length}
 use borrow.Author.Rules.{rules}
-use Rattle.replay_words.proofs.words.wide_number.Statement.{statement}
-use Rattle.replay_words.proofs.words.wide_number.Tie as tie
+use Rattle.replay_words.proofs.words.number.Statement.{statement}
+use Rattle.replay_words.proofs.words.number.Tie as tie
 
 abbrev invariant-loop : tie.invariant-loop
 invariant-loop line from value₀ i₀ value i = Unit {0}
@@ -11,8 +11,8 @@ invariant-loop line from value₀ i₀ value i = Unit {0}
 abbrev decreases-loop : tie.decreases-loop
 decreases-loop line from value₀ i₀ value i = length line - i
 
-pub wide-number-spec : {M : Type 1} → statement M
-wide-number-spec =
+pub number-spec : {M : Type 1} → statement M
+number-spec =
     tie.close
     (tie.spec
     invariant-loop
@@ -20,7 +20,6 @@ wide-number-spec =
     (λ c. search rules)
     (λ c. search rules)
     (λ c κs. search rules)
-    (λ c. search rules)
     (λ c. search rules)
     (λ c. search rules)
     (λ c. search rules)
