@@ -5,6 +5,8 @@
 //     plain_writer.rt   the writer's record and its answer as numbers
 //     run.rt            a run of characters
 //     writing.rt        a write of bytes
+#![tactic(auto)]
+
 mod numbers;
 mod plain;
 mod plain_writer;
@@ -32,7 +34,7 @@ use writing::write;
 
 // The scanner's record. A state's number past the last is read as 0, and a flag is false at 0 alone.
 #[repr(C)]
-#[derive(Drop)]
+#[derive(Clone, Copy)]
 pub struct Record {
     pub state: u32,
     pub expect_starter: u32,
@@ -43,7 +45,7 @@ pub struct Record {
 
 // The number of a refusal, or 0; how many numbers were written; the record after the call.
 #[repr(C)]
-#[derive(Drop)]
+#[derive(Clone, Copy)]
 pub struct Reply {
     pub refused: u32,
     pub written: usize,
@@ -52,7 +54,7 @@ pub struct Reply {
 
 // The writer's record. A mode's or a state's number past the last is read as 0, and a flag is false at 0 alone.
 #[repr(C)]
-#[derive(Drop)]
+#[derive(Clone, Copy)]
 pub struct Writer {
     pub mode: u32,
     pub expect_starter: u32,
@@ -66,7 +68,7 @@ pub struct Writer {
 // and its replacements, how many and which, each 0 where there is none; how many bytes were taken; how many characters are handed
 // out; the record after the call.
 #[repr(C)]
-#[derive(Drop)]
+#[derive(Clone, Copy)]
 pub struct WriteReply {
     pub refused: u32,
     pub abandon: u32,

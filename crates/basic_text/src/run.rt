@@ -8,8 +8,8 @@ ghost use Rattle.text_input.specs.Inner.{outs, ran_by};
 ghost use Rattle.basic_text.specs.Exports.{numbers_of, bytes_of};
 
 use super::numbers::{read_number, read_numbers, write_numbers};
-use text_input::{Options, Ran, TextInput};
 use scalars::BOM;
+use text_input::{Options, Ran, TextInput};
 
 // How many characters of the chunk are dropped: a leading FEFF, where no chunk was accepted before. Total.
 pub fn skips(r: TextInput, chunk: &[u8]) -> usize

@@ -14,12 +14,12 @@ ghost use Rattle.basic_text.specs.Inner.{tail, at_place, place_in, behind_of};
 
 use super::numbers::{read_number, write_numbers};
 use isolate_unassigned::IsolateUnassigned;
+use scalars::{Utf8Step, utf8_step, valid_prefix};
 use text_output::{Mode, TextOutput, WrittenBytes};
 use text_output_write::{
     Place, Pushed, Turned, bytes_refusal, end_write, finish, place_of, refused_write, taking, turn,
     write_refusal,
 };
-use scalars::{Utf8Step, utf8_step, valid_prefix};
 
 // Stores the first n of some numbers from place k on. Inner: asks for room.
 fn store_numbers(queue: &mut [u8], k: usize, from: &[u32], n: usize)

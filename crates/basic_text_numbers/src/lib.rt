@@ -2,6 +2,8 @@
 // comparison. Those of reasons are in `check_char`. Total.
 //     scanner.rt   the scanner's states
 //     writer.rt    the writer's modes and states
+#![tactic(auto)]
+
 mod scanner;
 mod writer;
 

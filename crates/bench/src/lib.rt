@@ -1,5 +1,7 @@
 // Sums over lent slices, one for each leaf, calls of the scanner and writes: what the benchmark calls, exported for Rust. They are proved
 // safe and promise nothing more: what they call has its contract, and the benchmark compares the sums with the Rust's.
+#![tactic(auto)]
+
 ghost use Rattle.std.specs.Prelude.{◌≡◌, true};
 ghost use Rattle.page.specs.Page.{accepted};
 
@@ -10,11 +12,11 @@ use generator::fill;
 use isolate_unassigned::isolate;
 use page::is_accepted;
 use replace::{Replaced, replace};
+use scalars::{decode_utf8, valid_prefix};
 use text_input::{Options, Scanned, State, TextInput};
 use text_input_price::{Price, ask, commit};
 use text_output::{TextOutput, Wrote};
 use text_utils::{is_basic_text_end, is_basic_text_start};
-use scalars::{decode_utf8, valid_prefix};
 use utf16::{ByteOrder, Decoded, decode_utf16, encode_utf16};
 
 // 1 for an end, else 0.

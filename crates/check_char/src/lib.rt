@@ -2,6 +2,8 @@
 // internals/src/categorize.rs. Beyond them, by the option for units, the reason for the signs of ohm, kelvin and angstrom names their
 // letters. The crate is not called `check`: the toolchain has a library of that name.
 //     numbers.rt   a reason as plain numbers
+#![tactic(auto)]
+
 mod numbers;
 
 ghost use Rattle.std.specs.Prelude.{◌≡◌};
@@ -12,7 +14,7 @@ use replace::{Replaced, replace_by};
 use scalars::{BOM, ORC, SUB, is_char};
 
 // The replacements that a reason names, as the Rust's `Box<[char]>`: how many, and three characters, 0 past that many.
-#[derive(Drop)]
+#[derive(Clone, Copy)]
 pub struct Replacements {
     pub count: u32,
     pub first: u32,
@@ -21,7 +23,7 @@ pub struct Replacements {
 }
 
 // Why a character, or a sequence of characters, is refused. A reason's number is its place here, counted from 1.
-#[derive(Drop)]
+#[derive(Clone, Copy)]
 pub enum BasicTextError {
     ColorEscapeSequence,
     ControlCode(u32),
@@ -42,7 +44,7 @@ pub enum BasicTextError {
 }
 
 // The Rust's `Result<(), BasicTextError>`.
-#[derive(Drop)]
+#[derive(Clone, Copy)]
 pub enum Checked {
     Ok,
     Err(BasicTextError),
@@ -213,7 +215,7 @@ pub fn check_basic_text_char(c: u32) -> Checked
 }
 
 // Accepted, no character (1), or refused for a reason (4).
-#[derive(Drop)]
+#[derive(Clone, Copy)]
 pub enum Answer {
     Accepted,
     NotAChar,
@@ -235,14 +237,14 @@ pub fn check(units: bool, c: u32) -> Answer
 }
 
 // The record of `Categorize`: the reason for which a character was last refused, the Rust's shared cell.
-#[derive(Drop)]
+#[derive(Clone, Copy)]
 pub struct Categorize {
     pub error: Checked,
 }
 
 // The character that is handed on, as it came or SUB, 1A, in its place; with the record after, which keeps the reason.
 // "The iterator chain with `Rc<RefCell>`: records by value whose step answers an enum."
-#[derive(Drop)]
+#[derive(Clone, Copy)]
 pub enum Categorized {
     Char(u32, Categorize),
     Sub(u32, Categorize),

@@ -2,6 +2,8 @@
 // them, unless it holds excepted characters. They are those of `is_basic_text` in internals/src/text_utils.rs without normalisation, and
 // a newline last; the Rust answers whether they hold, this the place and the kind of the first fault. The run is only read: plain
 // characters are passed by stretches (crate `stretch`), any other by the check of one character.
+#![tactic(auto)]
+
 ghost use Rattle.std.specs.Prelude.{◌≡◌, true};
 ghost use Rattle.page.specs.Page.{accepted};
 ghost use Rattle.check_run.specs.Rules.{allowed};
@@ -11,12 +13,12 @@ ghost use Rattle.check_run.specs.Inner.{AllowedUpTo};
 use check_char::{Checked, check_basic_text_char};
 use common::{NOT_A_CHAR, WRONG_PAGE};
 use page::is_accepted;
+use scalars::{ESC, are_chars};
 use stretch::{ascii_or, first_gap, is_sought, next_gap, plain_end};
 use text_utils::{is_basic_text_end, is_basic_text_start};
-use scalars::{ESC, are_chars};
 
 // What is wrong at a place. Faults at one place are told in this order.
-#[derive(Drop)]
+#[derive(Clone, Copy)]
 pub enum FaultKind {
     // The check refuses the character, or it is ESC.
     Char,
@@ -29,7 +31,7 @@ pub enum FaultKind {
 }
 
 // What the check says: every rule holds; the first fault, at its place counted from 0; or the number of the refusal.
-#[derive(Drop)]
+#[derive(Clone, Copy)]
 pub enum Verdict {
     Yes,
     Fault(usize, FaultKind),

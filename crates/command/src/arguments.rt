@@ -23,7 +23,7 @@ const OUTPUT: u32 = 1;
 
 const PAGE: u32 = 2;
 
-#[derive(Drop)]
+#[derive(Clone, Copy)]
 pub struct Wish {
     pub lines: bool,
     pub nel: bool,

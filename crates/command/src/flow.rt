@@ -20,14 +20,14 @@ pub const STOPPED: u32 = 3;
 pub const UNWRITTEN: u32 = 4;
 
 // The descriptors of the input and the output.
-#[derive(Drop)]
+#[derive(Clone, Copy)]
 pub struct Ways {
     pub from: i32,
     pub to: i32,
 }
 
 // What was done so far.
-#[derive(Drop)]
+#[derive(Clone, Copy)]
 pub struct Sums {
     pub bytes_read: u64,
     pub chars_read: u64,
@@ -38,7 +38,7 @@ pub struct Sums {
     pub lost: u64,
 }
 
-#[derive(Drop)]
+#[derive(Clone, Copy)]
 pub struct Total {
     pub end: u32,
     pub sums: Sums,

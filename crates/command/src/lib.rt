@@ -5,6 +5,8 @@
 //     place.rt      where in the input something stands
 //     messages.rt   what is said
 // Every function is safe and ends. What is read, written and said no contract can tell: tests/faults holds the built command to it.
+#![tactic(auto)]
+
 mod arguments;
 mod flow;
 mod messages;

@@ -269,7 +269,7 @@ pub fn help() -> bool {
 }
 
 // What the progress is measured by.
-#[derive(Drop)]
+#[derive(Clone, Copy)]
 pub struct Clock {
     // When the clean began, in seconds.
     pub start: u64,

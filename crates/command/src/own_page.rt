@@ -10,7 +10,7 @@ pub const NUMBERS: usize = 8194;
 const TEXT: usize = 65536;
 
 // How many numbers the page has, or that it is wrong, which was said.
-#[derive(Drop)]
+#[derive(Clone, Copy)]
 pub enum OwnPage {
     Is(usize),
     Wrong,

@@ -14,7 +14,7 @@ fn minus(a: u64, b: usize) -> u64 {
 }
 
 // How far the input is read.
-#[derive(Drop)]
+#[derive(Clone, Copy)]
 pub struct Spot {
     // Bytes before.
     pub offset: u64,
@@ -84,7 +84,7 @@ pub const NO_UTF_8: u32 = 1;
 pub const LOST: u32 = 2;
 
 // What `--strict` stops at.
-#[derive(Drop)]
+#[derive(Clone, Copy)]
 pub struct Fault {
     pub kind: u32,
     // Its line, counted from 1.
@@ -135,7 +135,7 @@ impl Fault {
 }
 
 // A block of the input, before it is cleaned: the record, and where it begins.
-#[derive(Drop)]
+#[derive(Clone, Copy)]
 pub struct Begun {
     pub record: Cleaner,
     pub options: Options,

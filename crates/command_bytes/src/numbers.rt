@@ -4,7 +4,7 @@ ghost use Rattle.command_bytes.specs.Digits.{digit_of};
 ghost use Rattle.command_bytes.specs.Words.{is_blank, begin_of, read_in, numbers_of};
 
 // How many numbers a text has, or why it has not only numbers, or too many.
-#[derive(Drop)]
+#[derive(Clone, Copy)]
 pub enum Parsed {
     All(usize),
     NoNumber,

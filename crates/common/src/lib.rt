@@ -1,5 +1,7 @@
 // What all crates share and none owns: the refusals by name, the answer of a call that writes lent places, and the lesser of two.
 // The definitions write the refusals' numbers, as the documents list them, and the code these names.
+#![tactic(auto)]
+
 ghost use Rattle.std.specs.Prelude.{◌≤◌};
 
 // A value in D800..DFFF or above 10FFFF.
@@ -48,7 +50,7 @@ pub const ODD_BYTES: u32 = 14;
 pub const UNPAIRED_SURROGATE: u32 = 15;
 
 // What scan, finish, isolation and writing UTF-16 answer: how many places were written, or the number of a refusal.
-#[derive(Drop)]
+#[derive(Clone, Copy)]
 pub enum Answer {
     Written(usize),
     Refused(u32),

@@ -1,6 +1,8 @@
 // A generator of awkward text that is the same on every machine: from a seed, which is its first state, it fills lent places with
 // characters of a list of 32, nearly each of which takes another way through the scanner. Document 02, A.6. The Rust has no such thing:
 // the comparison's oracle is plain Rust arithmetic.
+#![tactic(auto)]
+
 ghost use Rattle.std.specs.Prelude.{◌≡◌, ◌*◌, ◌%◌, ◌^◌};
 ghost use Rattle.generator.specs.Generator.{next_of, back_of, fill_places, fill_state};
 

@@ -2,6 +2,8 @@
 // The iterator becomes a record by value whose step answers all that it gives out for one character, so `deferred` is gone; what
 // the iterator gives after the last character is `finish`. A run goes by stretches of assigned characters that are copied (crate
 // `stretch`), and by a step for any other character.
+#![tactic(auto)]
+
 ghost use Rattle.std.specs.Prelude.{◌≡◌, true, List, ℕ, ◌+◌, ◌≤◌, ◌<◌, length, drop};
 ghost use Rattle.std.proofs.lemmas.List.Edits.{sets};
 ghost use Rattle.common.specs.Answers.{written_numbers};
@@ -14,12 +16,12 @@ ghost use Rattle.isolate_unassigned.specs.Inner.{fresh, isolate_step_of, gives_o
 use common::{Answer, NO_ROOM, NOT_A_CHAR, WRONG_PAGE};
 use page::{assigned_range, is_accepted, is_assigned};
 use ranges::{Range, in_range};
+use scalars::{CGJ, are_chars};
 use stretch::{either, either_end, is_sought, put_run};
 use text_utils::is_private_use_area;
-use scalars::{CGJ, are_chars};
 
 // Puts 34F around unassigned characters.
-#[derive(Drop)]
+#[derive(Clone, Copy)]
 pub struct IsolateUnassigned {
     // 34F was put before the last character, and is owed after it.
     pub need_cgj: bool,
@@ -29,7 +31,7 @@ pub struct IsolateUnassigned {
 
 // What a step gives out, and the record after: the character alone, or 34F and the character.
 // "The iterator chain with `Rc<RefCell>`: records by value whose step answers an enum."
-#[derive(Drop)]
+#[derive(Clone, Copy)]
 pub enum Isolated {
     One(u32, IsolateUnassigned),
     Two(u32, u32, IsolateUnassigned),
@@ -105,7 +107,7 @@ fn places_for(chars: &[u32]) -> usize
 }
 
 // How far the places are written, and the record.
-#[derive(Drop)]
+#[derive(Clone, Copy)]
 struct Turned {
     written: usize,
     next: IsolateUnassigned,
@@ -138,7 +140,7 @@ fn put_step(step: Isolated, out: &mut [u32], k: usize) -> Turned
 }
 
 // A range of assigned characters to look in beside the base, and whether c was found in one of the two.
-#[derive(Drop)]
+#[derive(Clone, Copy)]
 struct Near {
     range: Range,
     found: bool,
@@ -166,7 +168,7 @@ fn nearer(page: &[u32], base: Range, near: Range, c: u32) -> Near
 }
 
 // How far a run is taken and the places are written, the record, and the range to look in next.
-#[derive(Drop)]
+#[derive(Clone, Copy)]
 struct Moved {
     at: usize,
     written: usize,

@@ -1,4 +1,6 @@
 // The property page of Unicode 15.0.0, as one array: for callers that are lent none.
+#![tactic(auto)]
+
 mod numbers;
 
 ghost use Rattle.std.specs.Prelude.{◌≡◌};

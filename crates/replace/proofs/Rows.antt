@@ -78,6 +78,7 @@ module _ {c : ℕ} where
     go false = i
 
   inside_at : (s : Span) (ps : List Piece) → At c ps → T (has s c) → At c (inside s ps)
+  inside_at (a to b) [] x6 t = elim x6 [ ]
   inside_at (a to b) (x until y ∷ ps) (here h k) t =
       let l : a ≤ c = leb→le a c (and_l (leb a c) (leb c b) t) in
       let r : c ≤ b = leb→le c b (and_r (leb a c) (leb c b) t) in
@@ -93,6 +94,7 @@ module _ {c : ℕ} where
     go false f n = inl (f tt)
 
   outside_at : (s : Span) (ps : List Piece) → At c ps → T (not (has s c)) → At c (outside s ps)
+  outside_at (a to b) [] x6 t = elim x6 [ ]
   outside_at (a to b) (x until y ∷ ps) (here h k) t =
       step (At c) (meets (a to b) x y)
       (λ m.
@@ -109,6 +111,7 @@ module _ {c : ℕ} where
       (λ m. there (outside_at (a to b) ps i t))
 
   pub not_null : (ps : List Piece) → At c ps → T (null ps) → ⊥
+  not_null [] i t = elim i [ ]
   not_null (p ∷ ps) i t = t
 
   module _ {A : Type 0} (P : A → Type 0) where

@@ -1,6 +1,8 @@
 // What a character is replaced by on input, so that text that holds it can still be read. Ports `replace` of
 // internals/src/replace.rs, arm by arm; what the Rust pushes to a queue is the answer here. Beyond it, by the option for units, the
 // signs of ohm, kelvin and angstrom are replaced by their letters.
+#![tactic(auto)]
+
 ghost use Rattle.std.specs.Prelude.{◌≡◌, false};
 ghost use Rattle.replace.specs.Replace.{replace_of, replacement_numbers, replacement_of};
 
@@ -8,7 +10,7 @@ use common::NOT_A_CHAR;
 use scalars::{BOM, FF, LS, NEL, ORC, PS, REPL, WJ, is_char};
 
 // One to three characters.
-#[derive(Drop)]
+#[derive(Clone, Copy)]
 pub enum Replaced {
     One(u32),
     Two(u32, u32),
@@ -165,7 +167,7 @@ pub fn replace_by(units: bool, c: u32) -> Replaced
 }
 
 // What replaces a character, or the number of the refusal.
-#[derive(Drop)]
+#[derive(Clone, Copy)]
 pub enum Answer {
     Chars(Replaced),
     Refused(u32),

@@ -3,7 +3,7 @@ use libc::STDIN_FILENO;
 use replay_words::lines;
 
 // How far the input is read: the bytes of the block, those that are taken, the bytes of the line, and whether more may follow.
-#[derive(Drop)]
+#[derive(Clone, Copy)]
 pub struct Read {
     pub got: usize,
     pub taken: usize,

@@ -7,6 +7,8 @@
 //
 // A function that answers is lent the buffers: line, the operation; page, the current page; list, the
 // places that live with the writer; and out, the answers that wait to be written.
+#![tactic(auto)]
+
 mod current;
 mod input;
 
@@ -17,7 +19,7 @@ use replay_writer::Current;
 use text_input::TextInput;
 
 // What lasts from line to line beside the lent buffers.
-#[derive(Drop)]
+#[derive(Clone, Copy)]
 pub struct State {
     // How many numbers the current page has.
     pub page: usize,

@@ -6,6 +6,8 @@
 //     units.rt    UTF-16
 //     load.rt     the generator
 //     reason.rt   a refused character in an answer
+#![tactic(auto)]
+
 mod chars;
 mod checks;
 mod load;

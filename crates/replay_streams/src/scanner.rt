@@ -7,7 +7,7 @@ use text_input::{Options, Scanned, TextInput};
 use text_input_price::{Price, ask, commit};
 
 // The current scanner after a line, and how many bytes of answers wait then.
-#[derive(Drop)]
+#[derive(Clone, Copy)]
 pub struct Answered {
     pub scanner: TextInput,
     pub out: usize,

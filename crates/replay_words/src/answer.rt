@@ -5,7 +5,7 @@ use crate::front;
 use libc::STDOUT_FILENO;
 
 // Why a line is no operation.
-#[derive(Drop)]
+#[derive(Clone, Copy)]
 pub enum Why {
     Word,
     Number,

@@ -3,6 +3,8 @@
 //
 // A function that answers is lent out, the answers that wait to be written, with at, how many bytes
 // they are, and answers how many they are then.
+#![tactic(auto)]
+
 pub mod answer;
 pub mod blank;
 pub mod front;

@@ -14,7 +14,7 @@ pub fn byte_at(line: &[u8], i: usize) -> u8 {
 }
 
 // Which of some operations a line is, counted from 0, and the place where its words end.
-#[derive(Drop)]
+#[derive(Clone, Copy)]
 pub struct Operation {
     pub number: usize,
     pub place: usize,
@@ -64,7 +64,7 @@ fn digit(b: u8) -> u32
 }
 
 // A number and the place where it ends, or that none stands there.
-#[derive(Drop)]
+#[derive(Clone, Copy)]
 pub enum Value {
     Is(u32, usize),
     No,
@@ -110,7 +110,7 @@ pub fn size(n: u32) -> usize {
 }
 
 // The one number of an operation, or why there is none.
-#[derive(Drop)]
+#[derive(Clone, Copy)]
 pub enum Single {
     Is(u32),
     Bad(Why),
@@ -127,7 +127,7 @@ pub fn one_number(line: &[u8], place: usize) -> Single {
 }
 
 // A number and whether an option is on, or why neither stands there.
-#[derive(Drop)]
+#[derive(Clone, Copy)]
 pub enum Switched {
     Is(u32, bool),
     Bad(Why),
@@ -152,7 +152,7 @@ pub fn switched_number(line: &[u8], place: usize) -> Switched {
 }
 
 // How many are stored, or why not all can be.
-#[derive(Drop)]
+#[derive(Clone, Copy)]
 pub enum Stored {
     All(usize),
     Bad(Why),
@@ -204,7 +204,7 @@ fn pair(high: u8, low: u8) -> u32 {
 
 // How many bytes a word of pairs of digits has, where more than there is room for are one more than
 // that, and the place where it ends; or that none stands there.
-#[derive(Drop)]
+#[derive(Clone, Copy)]
 pub enum Paired {
     Is(usize, usize),
     No,

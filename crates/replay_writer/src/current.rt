@@ -5,7 +5,7 @@ use replay_words::answer::Why;
 use text_output::TextOutput;
 
 // The current writer.
-#[derive(Drop)]
+#[derive(Clone, Copy)]
 pub struct Current {
     pub writer: TextOutput,
     // Whether the number of held characters in its record is a claim.
@@ -15,7 +15,7 @@ pub struct Current {
 }
 
 // The current writer after a line, and how many bytes of answers wait then.
-#[derive(Drop)]
+#[derive(Clone, Copy)]
 pub struct Answered {
     pub current: Current,
     pub out: usize,

@@ -8,6 +8,8 @@
 //     told.rt      what a call answered
 //
 // A function that answers is lent list, the places that live with the writer.
+#![tactic(auto)]
+
 mod claims;
 mod current;
 mod ending;

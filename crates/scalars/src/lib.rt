@@ -1,5 +1,7 @@
 // The named characters of `internals/src/unicode.rs`, the test for a character, and UTF-8 (`utf8.rt`).
 // A character is lent as a 32-bit number. `is_normalization_form_starter` reads the property page: see the crate `page`.
+#![tactic(auto)]
+
 mod utf8;
 
 ghost use Rattle.std.specs.Prelude.{◌≡◌};

@@ -10,14 +10,14 @@ use super::is_char;
 use common::{NO_ROOM, NOT_A_CHAR, lesser};
 
 // What stands at a place: a character with the place after it, or none. "The UTF-8 step answers an enum"
-#[derive(Drop)]
+#[derive(Clone, Copy)]
 pub enum Utf8Step {
     Char(u32, usize),
     Stop,
 }
 
 // The bits of an encoding read so far, or a byte that does not go on with it.
-#[derive(Drop)]
+#[derive(Clone, Copy)]
 enum Bits {
     Read(u32),
     Broken,
@@ -124,7 +124,7 @@ pub fn utf8_step(bytes: &[u8], at: usize) -> Utf8Step
 }
 
 // How many characters, and how many bytes they take.
-#[derive(Drop)]
+#[derive(Clone, Copy)]
 pub struct Prefix {
     pub chars: usize,
     pub bytes: usize,
@@ -230,7 +230,7 @@ pub fn decode_utf8(bytes: &[u8], out: &mut [u32]) -> Prefix
 }
 
 // The place after what was written, or the number of a refusal.
-#[derive(Drop)]
+#[derive(Clone, Copy)]
 pub enum Encoded {
     Next(usize),
     Refused(u32),

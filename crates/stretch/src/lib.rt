@@ -3,6 +3,8 @@
 // No contract says that a stretch is the longest: where a block ends, and which ranges a caller guesses, is a matter of time alone.
 //     gaps.rt    ranges of plain characters
 //     lib.rt     the end of a stretch, and its copy
+#![tactic(auto)]
+
 mod gaps;
 
 ghost use Rattle.std.specs.Prelude.{◌≡◌, true, ◌+◌, ◌≤◌, length};
@@ -15,7 +17,7 @@ pub use gaps::{first_gap, next_gap};
 use ranges::{Range, in_range, no_range};
 
 // What a stretch is made of: the numbers of two ranges, and those of a third one but 149 and 673.
-#[derive(Drop)]
+#[derive(Clone, Copy)]
 pub struct Sought {
     pub one: Range,
     pub two: Range,

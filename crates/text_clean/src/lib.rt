@@ -5,6 +5,8 @@
 //     plain.rt    runs of plain characters, as bytes
 //     put.rt      what is appended, encoded into the places
 //     text.rt     one character of a text, and what is counted of it
+#![tactic(auto)]
+
 mod plain;
 mod put;
 mod text;
@@ -24,22 +26,22 @@ use common::{NO_ROOM, WRONG_PAGE};
 use page::is_accepted;
 use plain::{copy_run, line_end, plain_run};
 use ranges::Range;
+use scalars::{Utf8Step, utf8_step};
 use stretch::{first_gap, next_gap};
 pub use text::Text;
 use text::{Taken, Tally};
 use text_input::Options;
-use scalars::{Utf8Step, utf8_step};
 use utf8_lossy::{Out, Pending};
 
 // The cleaner's record: the bytes of a character that a chunk's end cut off, and the text so far.
-#[derive(Drop)]
+#[derive(Clone, Copy)]
 pub struct Cleaner {
     pub pending: Pending,
     pub text: Text,
 }
 
 // What a call counts, of the bytes that it takes.
-#[derive(Drop)]
+#[derive(Clone, Copy)]
 pub struct Counts {
     // Bytes written.
     pub written: usize,
@@ -54,21 +56,21 @@ pub struct Counts {
 }
 
 // What a call answers: what it counted, or the number of a refusal.
-#[derive(Drop)]
+#[derive(Clone, Copy)]
 pub enum CleanAnswer {
     Done(Counts),
     Refused(u32),
 }
 
 // A call's answer, and the record after it.
-#[derive(Drop)]
+#[derive(Clone, Copy)]
 pub struct Cleaned {
     pub answer: CleanAnswer,
     pub next: Cleaner,
 }
 
 // How far the bytes are taken and the places written, the record, what is counted, and the gap of plain characters to look in next.
-#[derive(Drop)]
+#[derive(Clone, Copy)]
 struct Moved {
     at: usize,
     written: usize,
@@ -78,7 +80,7 @@ struct Moved {
 }
 
 // How far the places are written, the record, and what is counted.
-#[derive(Drop)]
+#[derive(Clone, Copy)]
 struct Ran {
     written: usize,
     next: Cleaner,

@@ -10,7 +10,7 @@ use ranges::{Range, in_range};
 use scalars::{Utf8Step, utf8_step};
 
 // Where a run ends, how many characters it has, and the last of them.
-#[derive(Drop)]
+#[derive(Clone, Copy)]
 pub struct PlainEnd {
     pub at: usize,
     pub chars: usize,

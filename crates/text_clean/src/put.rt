@@ -8,8 +8,8 @@ ghost use Rattle.replace.specs.Replace.{chars};
 ghost use Rattle.text_input_parts.specs.Appended.{lead_chars, image_chars};
 
 use replace::Replaced;
-use text_input_parts::queue::{Image, Lead};
 use scalars::write_utf8;
+use text_input_parts::queue::{Image, Lead};
 
 pub fn put_lead(lead: Lead, out: &mut [u8], at: usize) -> usize
     requires lead_value { are_chars (lead_chars lead) ≡ true }

@@ -9,20 +9,20 @@ ghost use Rattle.text_clean.specs.Text.{bit, fresh_text, begun, escaping, goes_o
 ghost use Rattle.text_clean.specs.Inner.{Fits, tallied, taken_by, ready_for, passed_text, ended_text};
 
 use super::put::{put_image, put_lead};
+use scalars::{BOM, ESC};
 use text_input::step::{Left, is_optional_line, leave};
 use text_input::{Options, State, TextInput, is_ground};
-use scalars::{BOM, ESC};
 
 // A text so far: the scanner's record, and whether the last character was a 0D that an escape took, which is a lost line end unless 0A
 // follows.
-#[derive(Drop)]
+#[derive(Clone, Copy)]
 pub struct Text {
     pub input: TextInput,
     pub cr: bool,
 }
 
 // What is counted so far: characters read, bytes that U+FFFD stands for, characters dropped, line ends lost.
-#[derive(Drop)]
+#[derive(Clone, Copy)]
 pub struct Tally {
     pub read: usize,
     pub replaced: usize,
@@ -31,7 +31,7 @@ pub struct Tally {
 }
 
 // How far the places are written, the text, and what is counted.
-#[derive(Drop)]
+#[derive(Clone, Copy)]
 pub struct Taken {
     pub at: usize,
     pub text: Text,

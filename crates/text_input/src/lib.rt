@@ -5,6 +5,8 @@
 // is the crate `text_input_price`.
 // What needs no record, sets of characters, what is appended and its stores, and refusals, is the crate `text_input_parts`.
 //     step.rt    one character in one state: `process_raw_string` without its loop
+#![tactic(auto)]
+
 pub mod step;
 
 ghost use Rattle.std.specs.Prelude.{◌≡◌, true, ◌+◌, ◌≤◌, ◌<◌, length, drop};
@@ -20,14 +22,14 @@ ghost use Rattle.text_input.specs.Inner.{outs, grounded, steady, passed_by, ran_
 use common::{Answer, NO_ROOM};
 use page::is_accepted;
 use ranges::Range;
+use scalars::{BOM, are_chars};
 use stretch::{ascii_or, first_gap, is_sought, next_gap, plain_end, put_run};
 use text_input_parts::queue::{Lead, end_mark, last_lead, owed_newline, put_if, put_three};
 use text_input_parts::refusals;
 use text_input_parts::refusals::refusal;
-use scalars::{BOM, are_chars};
 
 // What the characters so far leave open. `Ground`: nothing; its flag is true after a newline, and before the first character.
-#[derive(Drop)]
+#[derive(Clone, Copy)]
 pub enum State {
     Ground(bool),
     // After 0D.
@@ -48,7 +50,7 @@ pub enum State {
 
 // Which characters end a line beside 0A and 0D: 85; 2028 and 2029. And "a scanner option under which replacement turns U+2126 into
 // U+03A9, U+212A into U+004B and U+212B into U+00C5".
-#[derive(Drop)]
+#[derive(Clone, Copy)]
 pub struct Options {
     pub nel_compatibility: bool,
     pub lsps_compatibility: bool,
@@ -69,7 +71,7 @@ impl Options {
 }
 
 // The scanner's record. The options, which the Rust keeps here, come with each call.
-#[derive(Drop)]
+#[derive(Clone, Copy)]
 pub struct TextInput {
     pub state: State,
     // A start is expected: in a fresh record, and after a finish.
@@ -83,14 +85,14 @@ pub struct TextInput {
 }
 
 // A call's answer, and the record after it.
-#[derive(Drop)]
+#[derive(Clone, Copy)]
 pub struct Scanned {
     pub answer: Answer,
     pub next: TextInput,
 }
 
 // How far a chunk is taken and the queue is written, the record, and the gap of plain characters to look in next.
-#[derive(Drop)]
+#[derive(Clone, Copy)]
 struct Moved {
     at: usize,
     written: usize,
@@ -99,7 +101,7 @@ struct Moved {
 }
 
 // What a finish appends, one after the other, and the record after it.
-#[derive(Drop)]
+#[derive(Clone, Copy)]
 pub struct Ending {
     pub lead: Lead,
     pub mark: Lead,
@@ -108,7 +110,7 @@ pub struct Ending {
 }
 
 // How far the queue is written, and the record.
-#[derive(Drop)]
+#[derive(Clone, Copy)]
 pub struct Ran {
     pub written: usize,
     pub next: TextInput,

@@ -8,12 +8,12 @@ ghost use Rattle.text_input.specs.Step.{leave_of, esc_leave, csi_leave, meet_of,
 
 use super::{Options, State, TextInput};
 use replace::{Replaced, replace_by};
+use scalars::{ESC, FF, LS, NEL, PS};
 use text_input_parts::queue::{Image, Lead, guard, last_image, last_lead};
 use text_input_parts::sets::{is_final, is_newline_char, is_parameter, is_string_end, up_to_del};
-use scalars::{ESC, FF, LS, NEL, PS};
 
 // What a character does to what is pending before it.
-#[derive(Drop)]
+#[derive(Clone, Copy)]
 pub enum Left {
     // It is part of it: it gives nothing and leaves this state.
     Part(State),
@@ -31,7 +31,7 @@ pub enum Left {
 }
 
 // What the ground state does with a character.
-#[derive(Drop)]
+#[derive(Clone, Copy)]
 pub enum Met {
     // It ends a line.
     Line,
@@ -42,7 +42,7 @@ pub enum Met {
 }
 
 // What a step appends, and the record after it.
-#[derive(Drop)]
+#[derive(Clone, Copy)]
 pub struct Step {
     pub lead: Lead,
     pub image: Image,

@@ -1,5 +1,7 @@
 // Filling bytes from the queue of the scanner: the part of `read_with_status` in text_input.rs that encodes the queue, and
 // `clear_to_char_boundary`. It needs no record.
+#![tactic(auto)]
+
 ghost use Rattle.std.specs.Prelude.{◌≡◌, true, ◌++◌, ◌≤◌, length, take, drop};
 ghost use Rattle.std.proofs.lemmas.List.Edits.{sets};
 ghost use Rattle.scalars.specs.Chars.{are_chars};
@@ -10,7 +12,7 @@ use common::{NOT_A_CHAR, SMALL_BUFFER};
 use scalars::{MAX_UTF8_SIZE, NORMALIZATION_BUFFER_SIZE, are_chars, write_utf8};
 
 // The characters taken from the queue and the bytes filled, or the number of a refusal.
-#[derive(Drop)]
+#[derive(Clone, Copy)]
 pub enum Filled {
     Counts(usize, usize),
     Refused(u32),
@@ -40,7 +42,7 @@ fn clear_to_char_boundary(buf: &mut [u8], at: usize)
     }
 }
 
-#[derive(Drop)]
+#[derive(Clone, Copy)]
 struct Encoded {
     taken: usize,
     bytes: usize,

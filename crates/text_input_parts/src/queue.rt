@@ -8,18 +8,18 @@ ghost use Rattle.replace.specs.Replace.{chars};
 ghost use Rattle.text_input_parts.specs.Appended.{lead_chars, image_chars, first_char, guard_of, last_of, end_mark_of, newline_of, stored_if, limit_of};
 
 use replace::Replaced;
-use text_utils::{is_basic_text_end, is_basic_text_start};
 use scalars::CGJ;
+use text_utils::{is_basic_text_end, is_basic_text_start};
 
 // What comes before an image: a character that was pending, or the 34F that guards the image's first character.
-#[derive(Drop)]
+#[derive(Clone, Copy)]
 pub enum Lead {
     Nothing,
     Char(u32),
 }
 
 // What the character itself gives.
-#[derive(Drop)]
+#[derive(Clone, Copy)]
 pub enum Image {
     Empty,
     Chars(Replaced),

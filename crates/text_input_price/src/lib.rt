@@ -1,18 +1,20 @@
 // Price the chunk, then take it: `ask` tells how many places a chunk fills from a scanner's record and writes nowhere, and `commit` takes
 // the chunk into that many places or more. The plain scan of `text_input` asks for 3 × n + 1 beforehand. Not in the Rust, whose queue
 // grows. Asking goes over the chunk as a scan does, by the same loop, which then counts and does not store.
+#![tactic(auto)]
+
 ghost use Rattle.std.specs.Prelude.{◌≡◌};
 ghost use Rattle.text_input.specs.Scan.{outcome};
 ghost use Rattle.text_input_price.specs.Price.{price_numbers, ask_of, commit_of};
 
 use common::{Answer, NO_ROOM};
 use page::is_accepted;
+use scalars::are_chars;
 use text_input::{Options, Scanned, TextInput};
 use text_input_parts::refusals::chunk_refusal;
-use scalars::are_chars;
 
 // What asking answers: how many places the chunk fills, or the number of a refusal.
-#[derive(Drop)]
+#[derive(Clone, Copy)]
 pub enum Price {
     Places(usize),
     Refused(u32),

@@ -130,6 +130,12 @@ Outside m = in_escape m.state ≡ false
 -- a character more is held in an escape, or by a color writer
 hold_outside : (mode : Mode) → lets_color mode ≡ false → (m : Machine) (s t : State) (c : ℕ) → m.state ≡ s → Grows mode s m.held t →
     Outside m → Outside (holding m t c)
+hold_outside mode h m (Grounded g) (Grounded _) c e x7 i = elim x7 [ ]
+hold_outside mode h m (Grounded g) Csi c e x7 i = elim x7 [ ]
+hold_outside mode h m Esc (Grounded _) c e x8 i = elim x8 [ ]
+hold_outside mode h m Esc Esc c e x8 i = elim x8 [ ]
+hold_outside mode h m Csi (Grounded _) c e x9 i = elim x9 [ ]
+hold_outside mode h m Csi Esc c e x9 i = elim x9 [ ]
 hold_outside mode h m (Grounded g) Esc c e (opened k) i = never (sym h ∙ sym (color_is mode) ∙ k)
 hold_outside mode h m Esc Csi c e begun i = never (sym (rw e at i))
 hold_outside mode h m Csi Csi c e (longer low) i = never (sym (rw e at i))

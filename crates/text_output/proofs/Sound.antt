@@ -36,6 +36,12 @@ IsSound w = sound (machine_of w) ≡ true
 -- one character more is held
 hold_sound : {mode : Mode} (m : Machine) (s t : State) (c : ℕ) → held_in s m.held ≡ true → Grows mode s m.held t →
     sound (holding m t c) ≡ true
+hold_sound {mode = mode} m (Ground g) (Ground _) c h x5 = elim x5 [ ]
+hold_sound {mode = mode} m (Ground g) Csi c h x5 = elim x5 [ ]
+hold_sound {mode = mode} m Esc (Ground _) c h x6 = elim x6 [ ]
+hold_sound {mode = mode} m Esc Esc c h x6 = elim x6 [ ]
+hold_sound {mode = mode} m Csi (Ground _) c h x7 = elim x7 [ ]
+hold_sound {mode = mode} m Csi Esc c h x7 = elim x7 [ ]
 hold_sound m (Ground g) Esc c h (opened k) = rw (eqb-true m.held 0 h)
 hold_sound m Esc Csi c h begun = rw (eqb-true m.held 1 h)
 hold_sound m Csi Csi c h (longer low) =

@@ -3,6 +3,8 @@
 // The record is a value, and the characters that it hands out stand in a lent slice: those kept since the last success in the first
 // places, and behind them those of the write. The stream that the Rust writer holds is the caller's: a success says how many
 // characters are handed out, and a refusal whether the caller is to abandon the stream.
+#![tactic(auto)]
+
 ghost use Rattle.std.specs.Prelude.{◌≡◌, [], ◌∷◌};
 ghost use Rattle.text_output.specs.declared.Mode.TheVariants.{Plain, Crlf, Color};
 ghost use Rattle.text_output.specs.declared.State.TheVariants.{Ground as Grounded};
@@ -14,7 +16,7 @@ use common::{AFTER_NO_NEWLINE, AFTER_NON_END, IN_ESCAPE, UNSOUND_WRITER};
 use scalars::BOM;
 
 // What stands last outside an escape.
-#[derive(Drop)]
+#[derive(Clone, Copy)]
 pub enum Ground {
     // A newline, or nothing yet.
     Newline,
@@ -25,7 +27,7 @@ pub enum Ground {
 }
 
 // Control-code and escape-sequence state machine.
-#[derive(Drop)]
+#[derive(Clone, Copy)]
 pub enum State {
     // Outside an escape.
     Ground(Ground),
@@ -36,7 +38,7 @@ pub enum State {
 }
 
 // What a step of a write asks for: `state_machine_char` of the Rust without its stores.
-#[derive(Drop)]
+#[derive(Clone, Copy)]
 pub enum Step {
     // The character goes out, and this stands last.
     Out(Ground),
@@ -53,7 +55,7 @@ pub enum Step {
 }
 
 // What a newline and ESC come to: `crlf_compatibility` and `ansi_color` of the Rust, of which no constructor sets both.
-#[derive(Drop)]
+#[derive(Clone, Copy)]
 pub enum Mode {
     Plain,
     // A newline goes out as 0D 0A.
@@ -63,7 +65,7 @@ pub enum Mode {
 }
 
 // The writer's record.
-#[derive(Drop)]
+#[derive(Clone, Copy)]
 pub struct TextOutput {
     pub mode: Mode,
     // A start is expected: in a fresh record, after a flush that succeeds and after a close.
@@ -78,14 +80,14 @@ pub struct TextOutput {
 }
 
 // A writer, and the character that it hands out on opening.
-#[derive(Drop)]
+#[derive(Clone, Copy)]
 pub struct Opened {
     pub bom: u32,
     pub writer: TextOutput,
 }
 
 // What a write answers.
-#[derive(Drop)]
+#[derive(Clone, Copy)]
 pub enum Wrote {
     // The first so many places are handed out.
     HandedOut(usize),
@@ -98,14 +100,14 @@ pub enum Wrote {
 }
 
 // A write's answer, and the record after it.
-#[derive(Drop)]
+#[derive(Clone, Copy)]
 pub struct Written {
     pub answer: Wrote,
     pub next: TextOutput,
 }
 
 // The same of a write of bytes, and how many of them were taken: none where it was refused.
-#[derive(Drop)]
+#[derive(Clone, Copy)]
 pub struct WrittenBytes {
     pub used: usize,
     pub answer: Wrote,
@@ -113,7 +115,7 @@ pub struct WrittenBytes {
 }
 
 // What a flush or a close answers.
-#[derive(Drop)]
+#[derive(Clone, Copy)]
 pub enum Answer {
     Done,
     // Refused by this number; nothing changed.
@@ -123,7 +125,7 @@ pub enum Answer {
 }
 
 // Its answer, and the record after it.
-#[derive(Drop)]
+#[derive(Clone, Copy)]
 pub struct Answered {
     pub answer: Answer,
     pub next: TextOutput,

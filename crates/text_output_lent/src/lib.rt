@@ -2,6 +2,8 @@
 // method of `text_output`, which takes the record by value, and stores the record that it returns.
 // The record is lent by `flush_by_loan`, `close_by_loan` and `abandon_by_loan`, which take a record by value and hand back what the
 // lent function left: a caller of these lends nothing itself.
+#![tactic(auto)]
+
 ghost use Rattle.std.specs.Prelude.{◌≡◌};
 ghost use Rattle.text_output.specs.Writer.{answered_given};
 ghost use Rattle.text_output.specs.Close.{flush_of, close_of, abandon_of};

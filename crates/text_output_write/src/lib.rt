@@ -6,6 +6,8 @@
 //     run.rt       the steps of a write
 //     end.rt       how a write ends
 // Of these, what is `pub use` is for a write into other places than numbers. Inner.
+#![tactic(auto)]
+
 mod end;
 mod refusal;
 mod run;
@@ -22,9 +24,9 @@ use refusal::chars_refusal;
 pub use refusal::{bytes_refusal, refused_write, write_refusal};
 pub use run::{Turned, finish, turn};
 use run::{run, run_bytes};
+use scalars::valid_prefix;
 pub use store::{Place, Pushed, Stop};
 use text_output::{TextOutput, Written, WrittenBytes, Wrote};
-use scalars::valid_prefix;
 
 // Writes characters: they are stored behind the kept ones, and all are handed out. Total: refuses 9, then 2, then 1, then 8, and
 // then leaves record and places; then 4 with its reason or 6, or 5 at the end.

@@ -5,8 +5,8 @@ ghost use Rattle.text_output.specs.Write.{chars_refusal, bytes_refusal, input_re
 
 use common::{NO_ROOM, NOT_A_CHAR, NOT_UTF8, UNSOUND_WRITER, WRONG_PAGE};
 use page::is_accepted;
-use text_output::{TextOutput, Written, Wrote};
 use scalars::are_chars;
+use text_output::{TextOutput, Written, Wrote};
 
 // By which number characters refuse a write, 0 where they do not.
 pub fn chars_refusal(chars: &[u32]) -> u32

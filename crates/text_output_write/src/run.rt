@@ -16,12 +16,12 @@ use super::step::is_crlf;
 use super::store::{Place, Pushed, Stop, push};
 use check_char::{BasicTextError, Categorize, Categorized, Checked};
 use isolate_unassigned::{IsolateUnassigned, Isolated};
-use text_output::{Ground, Mode, State};
 use scalars::{CGJ, Utf8Step, utf8_step};
+use text_output::{Ground, Mode, State};
 
 // ---- before a character
 // Whether the isolator puts 34F before a character, and the isolator after it.
-#[derive(Drop)]
+#[derive(Clone, Copy)]
 struct Ahead {
     put: bool,
     isolator: IsolateUnassigned,
@@ -167,7 +167,7 @@ fn line_end(mode: Mode, w: Place, owed: bool, escape: &mut [u32; 64], out: &mut 
 
 // ---- a turn
 // What a turn came to, and the isolator after it.
-#[derive(Drop)]
+#[derive(Clone, Copy)]
 pub struct Turned {
     pub pushed: Pushed,
     pub isolator: IsolateUnassigned,

@@ -4,9 +4,9 @@ ghost use Rattle.std.specs.Prelude.{◌≡◌};
 ghost use Rattle.text_output.specs.Step.{is_color, ground_of, ground_asked, esc_asked, csi_asked, asked_in};
 ghost use Rattle.text_output_write.specs.Inner.{is_crlf};
 
+use scalars::ESC;
 use text_output::{Ground, Mode, State, Step, TextOutput};
 use text_utils::is_basic_text_end;
-use scalars::ESC;
 
 // Whether color escapes are let through.
 fn is_color(mode: Mode) -> bool

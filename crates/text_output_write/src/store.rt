@@ -11,7 +11,7 @@ use stretch::put_run;
 use text_output::{Ground, Mode, State, Step};
 
 // What steps change, without the held characters, and the place for the next character to hand out.
-#[derive(Drop)]
+#[derive(Clone, Copy)]
 pub struct Place {
     pub state: State,
     pub held: usize,
@@ -19,14 +19,14 @@ pub struct Place {
 }
 
 // Why a step is refused: by 4, for this reason, or by 6.
-#[derive(Drop)]
+#[derive(Clone, Copy)]
 pub enum Stop {
     Reason(BasicTextError),
     Limit,
 }
 
 // Where the steps stand: they go on, or one is refused.
-#[derive(Drop)]
+#[derive(Clone, Copy)]
 pub enum Pushed {
     On(Place),
     Stopped(Place, Stop),

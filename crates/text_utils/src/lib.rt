@@ -3,6 +3,8 @@
 // searched by halves.
 //     lists.rt    the packed lists, each with what it holds
 //     tables.rt   the numbers of all lists
+#![tactic(auto)]
+
 mod lists;
 mod tables;
 
@@ -169,7 +171,7 @@ pub fn is_private_use_area(c: u32) -> bool
 }
 
 // Whether a character is in a class, or the number of the refusal.
-#[derive(Drop)]
+#[derive(Clone, Copy)]
 pub enum Class {
     Is(bool),
     Refused(u32),

@@ -1,6 +1,8 @@
 // UTF-16 in either byte order: a whole run of bytes read as characters, and characters written as bytes. Document 02, A.3. Stands for
 // `char::decode_utf16` and `char::encode_utf16`, which go by units of 16 bits, and this by the bytes of each; and where the former goes
 // on behind an unpaired surrogate, this refuses the run, so that nothing is read in part.
+#![tactic(auto)]
+
 ghost use Rattle.std.specs.Prelude.{◌≡◌, true, ◌||◌, [], ◌∷◌, ◌+◌, ◌-◌, ◌*◌, ◌/◌, ◌≤◌, ◌<◌, length, get_or, take, drop};
 ghost use Rattle.std.proofs.lemmas.List.Edits.{sets};
 ghost use Rattle.common.specs.Answers.{written_numbers};
@@ -14,14 +16,14 @@ use common::{Answer, NO_ROOM, NOT_A_CHAR, ODD_BYTES};
 use scalars::are_chars;
 
 // Which byte of a unit stands first: the low one, or the high one. "one little-endian and one big-endian"
-#[derive(Drop)]
+#[derive(Clone, Copy)]
 pub enum ByteOrder {
     Little,
     Big,
 }
 
 // What reading answers.
-#[derive(Drop)]
+#[derive(Clone, Copy)]
 pub enum Decoded {
     // So many characters stand in the first places.
     Chars(usize),
@@ -81,7 +83,7 @@ fn is_low(u: u32) -> bool
 }
 
 // What a look over all units finds: so many pairs and no unpaired surrogate, or the place of the first unpaired one.
-#[derive(Drop)]
+#[derive(Clone, Copy)]
 enum Found {
     Paired(usize),
     Unpaired(usize),

@@ -1,6 +1,8 @@
 // Any bytes as characters, in chunks cut anywhere: U+FFFD for each maximal subpart (the Unicode Standard, section 3.9), as Rust's
 // `from_utf8_lossy` and Python's errors='replace' have it. The bytes of a character that a chunk cuts off wait in a record, a value:
 // each call takes one and answers the one after it. Every entry is total: a record can hold any bytes, and only characters come out.
+#![tactic(auto)]
+
 ghost use Rattle.std.specs.Prelude.{◌≡◌, [], ◌∷◌, ◌++◌, ◌+◌, ◌≤◌, ◌<◌, length};
 ghost use Rattle.std.proofs.lemmas.List.Edits.{sets};
 ghost use Rattle.utf8_lossy.specs.Machine.{whole_of, next_of, fresh_of, behind, step_of, finish_of};
@@ -10,7 +12,7 @@ use common::NO_ROOM;
 use scalars::{REPL, is_char};
 
 // What the pending bytes and one byte more are: a character, part of one, or no start of any.
-#[derive(Drop)]
+#[derive(Clone, Copy)]
 enum Kind {
     Whole(u32),
     More,
@@ -18,7 +20,7 @@ enum Kind {
 }
 
 // The characters that are put out.
-#[derive(Drop)]
+#[derive(Clone, Copy)]
 pub enum Out {
     Nothing,
     One(u32),
@@ -26,7 +28,7 @@ pub enum Out {
 }
 
 // The record: the pending bytes, those of a character that has begun. `Nothing` is the start of a text.
-#[derive(Drop)]
+#[derive(Clone, Copy)]
 pub enum Pending {
     Nothing,
     One(u8),
@@ -35,7 +37,7 @@ pub enum Pending {
 }
 
 // What a byte comes to: the record after it, the characters put out, and how many bytes are replaced in them.
-#[derive(Drop)]
+#[derive(Clone, Copy)]
 pub struct Stepped {
     pub next: Pending,
     pub out: Out,
@@ -43,14 +45,14 @@ pub struct Stepped {
 }
 
 // How many characters were written and how many bytes are replaced in them, or the number of a refusal.
-#[derive(Drop)]
+#[derive(Clone, Copy)]
 pub enum Counted {
     Counts(usize, usize),
     Refused(u32),
 }
 
 // A call's answer, and the record after it.
-#[derive(Drop)]
+#[derive(Clone, Copy)]
 pub struct Decoded {
     pub answer: Counted,
     pub next: Pending,

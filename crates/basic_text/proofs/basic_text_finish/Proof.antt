@@ -10,19 +10,16 @@ use Rattle.basic_text.proofs.basic_text_finish.Tie as tie
 
 returns : tie.Need-returns
 returns c =
-    let f = c.before.before.before in
-    let e = f.before.before in
-    let r = e.before in
-    let a = r.before.before.args in
-    let w : finish_of r.record_of.result e.flag-of.result (numbers_of a.queue.now)
-    ≡ finish_of (record_of a.«record») (flag a.eof) (numbers_of a.queue.now) =
-    rw (r.record_of.ensures, e.flag-of.ensures) in (
-      c.reply-of.ensures ∙ ap reply_of (f.finish.ensures.0 ∙ w),
-      f.finish.ensures.1 ∙ ap (λ (x : Outcome). sets a.queue.now 0 (bytes_of x.places)) w,
+    let a = c.args in
+    let w : finish_of c.record_of-r.result c.flag_of-end.result (numbers_of a.queue.now)
+    ≡ finish_of (record_of a.record) (flag a.eof) (numbers_of a.queue.now) =
+    rw (c.record_of-r.ensures, c.flag_of-end.ensures) in (
+      c.reply_of.ensures ∙ ap reply_of (c.finish-finished.ensures.0 ∙ w),
+      c.finish-finished.ensures.1 ∙ ap (λ (x : Outcome). sets a.queue.now 0 (bytes_of x.places)) w,
     )
 
-pub basic-text-finish-spec : {M : Type 1} → statement M
-basic-text-finish-spec =
+pub basic_text_finish_spec : {M : Type 1} → statement M
+basic_text_finish_spec =
     tie.close
     (tie.spec
     (λ c κs. search rules)

@@ -7,55 +7,43 @@ use Rattle.basic_text.proofs.Pages.{scan_reply}
 use Rattle.basic_text.proofs.basic_text_scan.Statement.{statement}
 use Rattle.basic_text.proofs.basic_text_scan.Tie as tie
 
-abbrev Entry : tie.After-options-of → tie.Start
-Entry o = o.before.before.before.before.before
-
-read-fitting-requires : tie.Need-read-fitting-requires
+read-fitting-requires : tie.Need-read_fitting-n-requires
 read-fitting-requires c κs =
-    let d = c.before in
-    let n = length_numbers (Entry d.before).args.page.now in
-    (omega (arith, n, d.if1.true), omega (arith, n, d.if1.true))
+    let n = length_numbers c.args.page.now in
+    (omega (arith, n, c.if-page-le-SHORT.true), omega (arith, n, c.if-page-le-SHORT.true))
 
-part-scan-end : tie.Need-slice-bounds-scan-end
+part-scan-end : tie.Need-slice_bounds-scan-end
 part-scan-end c =
-    let r = c.before.before in
-    let d = r.before.before in
-    omega (arith, length_numbers (Entry d.before).args.page.now, d.if1.true, r.read-fitting.ensures.0)
+    omega (arith, length_numbers c.args.page.now, c.if-page-le-SHORT.true, c.read_fitting-n.ensures.0)
 
-returns : tie.Need-returns
+returns : tie.Need-returns-then-page-le-SHORT
 returns c =
-    let s = c.before.before.before in
-    let n = s.before.before.before.before.before in
-    let o = n.before.before.before in
-    let a = (Entry o).args in
-    scan_reply (record_of a.«record») _ (options_of a.options) _ (page_of a.page.now) n.read-fitting.new.1.0 n.read-fitting.result (numbers_of a.chunk.now) a.queue.now
-    o.before.record_of.ensures
-    o.options-of.ensures
-    n.read-fitting.ensures.1
-    s.scan.result
+    let a = c.args in
+    scan_reply (record_of a.record) _ (options_of a.options) _ (page_of a.page.now) c.read_fitting-n.new.all c.read_fitting-n.result (numbers_of a.chunk.now) a.queue.now
+    c.record_of-r.ensures
+    c.options_of-o.ensures
+    c.read_fitting-n.ensures.1
+    c.scan-scanned.result
     _
     _
-    s.scan.ensures
-    c.reply-of.ensures
+    c.scan-scanned.ensures
+    c.reply_of.ensures
 
-returns-2 : tie.Need-returns-2
+returns-2 : tie.Need-returns
 returns-2 c =
-    let s = c.before.before.before in
-    let n = s.before.before.before.before.before in
-    let o = n.before.before.before in
-    let a = (Entry o).args in
-    scan_reply (record_of a.«record») _ (options_of a.options) _ (page_of a.page.now) n.read-page.new.1.0 n.read-page.result (numbers_of a.chunk.now) a.queue.now
-    o.before.record_of.ensures
-    o.options-of.ensures
-    n.read-page.ensures.1
-    s.scan2.result
+    let a = c.args in
+    scan_reply (record_of a.record) _ (options_of a.options) _ (page_of a.page.now) c.read_page-n.new.all c.read_page-n.result (numbers_of a.chunk.now) a.queue.now
+    c.record_of-r.ensures
+    c.options_of-o.ensures
+    c.read_page-n.ensures.1
+    c.scan-scanned-2.result
     _
     _
-    s.scan2.ensures
-    c.reply-of2.ensures
+    c.scan-scanned-2.ensures
+    c.reply_of-2.ensures
 
-pub basic-text-scan-spec : {M : Type 1} → statement M
-basic-text-scan-spec =
+pub basic_text_scan_spec : {M : Type 1} → statement M
+basic_text_scan_spec =
     tie.close
     (tie.spec
     (λ c κs. search rules)

@@ -7,53 +7,41 @@ use Rattle.basic_text.proofs.Pages.{write_reply}
 use Rattle.basic_text.proofs.basic_text_write.Statement.{statement}
 use Rattle.basic_text.proofs.basic_text_write.Tie as tie
 
-abbrev Entry : tie.After-writer-of → tie.Start
-Entry v = v.before.before.before.before
-
-read-fitting-requires : tie.Need-read-fitting-requires
+read-fitting-requires : tie.Need-read_fitting-n-requires
 read-fitting-requires c κs =
-    let d = c.before in
-    let n = length_numbers (Entry d.before).args.page.now in
-    (omega (arith, n, d.if1.true), omega (arith, n, d.if1.true))
+    let n = length_numbers c.args.page.now in
+    (omega (arith, n, c.if-page-le-SHORT.true), omega (arith, n, c.if-page-le-SHORT.true))
 
-part-write-end : tie.Need-slice-bounds-write-end
+part-write-end : tie.Need-slice_bounds-write-end
 part-write-end c =
-    let r = c.before.before in
-    let d = r.before.before in
-    omega (arith, length_numbers (Entry d.before).args.page.now, d.if1.true, r.read-fitting.ensures.0)
+    omega (arith, length_numbers c.args.page.now, c.if-page-le-SHORT.true, c.read_fitting-n.ensures.0)
 
-returns : tie.Need-returns
+returns : tie.Need-returns-then-page-le-SHORT
 returns c =
-    let s = c.before.before.before in
-    let n = s.before.before.before.before.before in
-    let v = n.before.before.before in
-    let a = (Entry v).args in
-    write_reply (writer_of a.writer) _ (page_of a.page.now) n.read-fitting.new.1.0 n.read-fitting.result a.bytes.now a.queue.now
-    v.Writer-of.ensures
-    n.read-fitting.ensures.1
-    s.write.result
+    let a = c.args in
+    write_reply (writer_of a.writer) _ (page_of a.page.now) c.read_fitting-n.new.all c.read_fitting-n.result a.bytes.now a.queue.now
+    c.writer_of-w.ensures
+    c.read_fitting-n.ensures.1
+    c.write-written.result
     _
     _
-    s.write.ensures
-    c.write-reply-of.ensures
+    c.write-written.ensures
+    c.write_reply_of.ensures
 
-returns-2 : tie.Need-returns-2
+returns-2 : tie.Need-returns
 returns-2 c =
-    let s = c.before.before.before in
-    let n = s.before.before.before.before.before in
-    let v = n.before.before.before in
-    let a = (Entry v).args in
-    write_reply (writer_of a.writer) _ (page_of a.page.now) n.read-page.new.1.0 n.read-page.result a.bytes.now a.queue.now
-    v.Writer-of.ensures
-    n.read-page.ensures.1
-    s.write2.result
+    let a = c.args in
+    write_reply (writer_of a.writer) _ (page_of a.page.now) c.read_page-n.new.all c.read_page-n.result a.bytes.now a.queue.now
+    c.writer_of-w.ensures
+    c.read_page-n.ensures.1
+    c.write-written-2.result
     _
     _
-    s.write2.ensures
-    c.write-reply-of2.ensures
+    c.write-written-2.ensures
+    c.write_reply_of-2.ensures
 
-pub basic-text-write-spec : {M : Type 1} → statement M
-basic-text-write-spec =
+pub basic_text_write_spec : {M : Type 1} → statement M
+basic_text_write_spec =
     tie.close
     (tie.spec
     (λ c κs. search rules)

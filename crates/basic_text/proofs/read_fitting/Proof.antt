@@ -8,19 +8,17 @@ use Rattle.basic_text.proofs.Pages.{right_page, odd_page}
 use Rattle.basic_text.proofs.read_fitting.Statement.{statement}
 use Rattle.basic_text.proofs.read_fitting.Tie as tie
 
-returns : tie.Need-returns
+returns : tie.Need-returns-then-page-eq0
 returns c =
-    let d = c.before.before.before.before in
-    let s = d.before.before.before in
-    let page = s.args.page.now in
+    let page = c.args.page.now in
     let n = length_numbers page in (
       omega (arith, n),
-      rw c.before.before.read-numbers.ensures
-          (take_first _ _ _ n (omega (arith, n, s.requires.0)) ∙ sym (right_page page (omega (arith, d.if1.true)) (omega (arith, n, s.requires.0)))),
+      rw c.read_numbers.ensures
+          (take_first _ _ _ n (omega (arith, n, c.requires.0)) ∙ sym (right_page page (omega (arith, c.if-page-eq0.true)) (omega (arith, n, c.requires.0)))),
     )
 
-returns-2 : tie.Need-returns-2
-returns-2 c = (omega arith, sym (odd_page c.before.before.before.args.page.now c.if1.false))
+returns-2 : tie.Need-returns
+returns-2 c = (omega arith, sym (odd_page c.args.page.now c.if-page-eq0.false))
 
-pub read-fitting-spec : {M : Type 1} → statement M
-read-fitting-spec = tie.close (tie.spec (λ c κs. search rules) (λ c. search rules) returns returns-2)
+pub read_fitting_spec : {M : Type 1} → statement M
+read_fitting_spec = tie.close (tie.spec (λ c κs. search rules) (λ c. search rules) returns returns-2)

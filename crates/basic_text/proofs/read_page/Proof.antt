@@ -7,21 +7,18 @@ use Rattle.basic_text.proofs.Pages.{long_page}
 use Rattle.basic_text.proofs.read_page.Statement.{statement}
 use Rattle.basic_text.proofs.read_page.Tie as tie
 
-read-fitting-requires : tie.Need-read-fitting-requires
+read-fitting-requires : tie.Need-read_fitting-requires
 read-fitting-requires c κs =
-    let s = c.before.before.before.before in
-    let n = length_numbers s.args.page.now in
-    (omega (arith, n, c.before.if1.true), omega (arith, n, c.before.if1.true, s.requires))
+    let n = length_numbers c.args.page.now in
+    (omega (arith, n, c.if-page-le-LONGEST.true), omega (arith, n, c.if-page-le-LONGEST.true, c.requires))
 
-returns : tie.Need-returns
+returns : tie.Need-returns-then-page-le-LONGEST
 returns c =
-    let r = c.before.before in
-    let d = r.before.before in
-    let n = length_numbers d.before.before.before.args.page.now in
-    (omega (arith, n, d.if1.true, r.read-fitting.ensures.0), r.read-fitting.ensures.1)
+    let n = length_numbers c.args.page.now in
+    (omega (arith, n, c.if-page-le-LONGEST.true, c.read_fitting.ensures.0), c.read_fitting.ensures.1)
 
-returns-2 : tie.Need-returns-2
-returns-2 c = (omega arith, sym (long_page c.before.before.before.args.page.now c.if1.false))
+returns-2 : tie.Need-returns
+returns-2 c = (omega arith, sym (long_page c.args.page.now c.if-page-le-LONGEST.false))
 
-pub read-page-spec : {M : Type 1} → statement M
-read-page-spec = tie.close (tie.spec read-fitting-requires (λ c. search rules) returns returns-2)
+pub read_page_spec : {M : Type 1} → statement M
+read_page_spec = tie.close (tie.spec read-fitting-requires (λ c. search rules) returns returns-2)

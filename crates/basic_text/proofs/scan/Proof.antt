@@ -8,16 +8,13 @@ use Rattle.basic_text.proofs.Calls.{AskedBytes, asked, scan_refused, few, room, 
 use Rattle.basic_text.proofs.scan.Statement.{statement}
 use Rattle.basic_text.proofs.scan.Tie as tie
 
-abbrev start : tie.After-refusal → tie.Start
-start c = c.before.before.before.before.before.before
-
-bytes : (c : tie.After-refusal) → Bytes (start c).args.queue.now
-bytes c i = omega (arith, c.before.before.before.slice-known.given i)
+bytes : (c : tie.After-refusal-no) → Bytes c.args.queue.now
+bytes c i = omega (arith, c.slice_known-1.given i)
 
 -- the refusal's number is the definition's
-abbrev scan-asked : tie.After-refusal → AskedBytes
+abbrev scan-asked : tie.After-refusal-no → AskedBytes
 scan-asked c =
-    let a = (start c).args in
+    let a = c.args in
     record {
       r = a.r;
       page = a.page.now;
@@ -25,37 +22,34 @@ scan-asked c =
       chunk = a.chunk.now;
       queue = a.queue.now;
       bytes = bytes c;
-      no = c.refusal.result;
-      is = rw (← c.before.hold-chars.ensures, ← c.before.before.is_accepted.ensures) c.refusal.ensures;
+      no = c.refusal-no.result;
+      is = rw (← c.hold_chars.ensures, ← c.is_accepted.ensures) c.refusal-no.ensures;
     }
 
-run-requires : tie.Need-run-requires
+run-requires : tie.Need-run-ran-requires
 run-requires c κs =
-    let s = c.before.before in
-    let z = s.before.if1.true in
-    let a = scan-asked s.before.before in (
+    let z = c.if-no-eq0.true in
+    let a = scan-asked c.before.before.before.before in (
       right_page (asked a) z,
-      (from_le (asked a) z _ s.skips.ensures, room a z _ s.skips.ensures _ c.before.«open».ensures),
+      (from_le (asked a) z _ c.skips-from.ensures, room a z _ c.skips-from.ensures _ c.open-opened.ensures),
     )
 
-returns : tie.Need-returns
+returns : tie.Need-returns-then-no-eq0
 returns c =
-    let r = c.before.before.before in
-    let s = r.before.before.before in
-    scan_accepted (scan-asked s.before.before) s.before.if1.true _ s.skips.ensures _ r.before.before.«open».ensures
-    r.run.result _ r.run.ensures
+    scan_accepted (scan-asked c.before.before.before.before.before.before.before.before) c.if-no-eq0.true _ c.skips-from.ensures _ c.open-opened.ensures
+    c.run-ran.result _ c.run-ran.ensures
 
-pub scan-spec : {M : Type 1} → statement M
-scan-spec =
+pub scan_spec : {M : Type 1} → statement M
+scan_spec =
     tie.close
     (tie.spec
     (λ c κs. search rules)
     (λ c κs. search rules)
     (λ c κs. search rules)
     (λ c κs. search rules)
-    (λ c. omega (arith, few (scan-asked c.before.before) c.before.if1.true))
-    (λ c κs. omega (arith, few (scan-asked c.before.before) c.before.if1.true))
+    (λ c. omega (arith, few (scan-asked c.before.before) c.if-no-eq0.true))
+    (λ c κs. omega (arith, few (scan-asked c.before.before) c.if-no-eq0.true))
     run-requires
     (λ c. search rules)
     returns
-    (λ c. scan_refused (scan-asked c.before) c.if1.false))
+    (λ c. scan_refused (scan-asked c.before) c.if-no-eq0.false))

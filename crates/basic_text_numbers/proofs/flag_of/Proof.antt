@@ -6,5 +6,5 @@ use Rattle.basic_text_numbers.proofs.flag_of.Tie as tie
 returns : tie.Need-returns
 returns c = search rules
 
-pub flag-of-spec : {M : Type 1} → statement M
-flag-of-spec = tie.close (tie.spec returns)
+pub flag_of_spec : {M : Type 1} → statement M
+flag_of_spec = tie.close (tie.spec returns)

@@ -3,14 +3,14 @@ use Rattle.std.proofs.Common.{◌-◌, ◌≤◌, length, arith, rules}
 use Rattle.bench.proofs.bench_check.Statement.{statement}
 use Rattle.bench.proofs.bench_check.Tie as tie
 
-abbrev invariant-loop : tie.invariant-loop
+abbrev invariant-loop : tie.invariant-loop-i
 invariant-loop cs sum₀ i₀ sum i = i ≤ length cs
 
-abbrev decreases-loop : tie.decreases-loop
+abbrev decreases-loop : tie.decreases-loop-i
 decreases-loop cs sum₀ i₀ sum i = length cs - i
 
-pub bench-check-spec : {M : Type 1} → statement M
-bench-check-spec =
+pub bench_check_spec : {M : Type 1} → statement M
+bench_check_spec =
     tie.close
     (tie.spec
     invariant-loop

@@ -3,14 +3,14 @@ use Rattle.std.proofs.Common.{◌-◌, ◌≤◌, length, arith, rules}
 use Rattle.bench.proofs.bench_end.Statement.{statement}
 use Rattle.bench.proofs.bench_end.Tie as tie
 
-abbrev invariant-loop : tie.invariant-loop
+abbrev invariant-loop : tie.invariant-loop-i
 invariant-loop cs sum₀ i₀ sum i = i ≤ length cs
 
-abbrev decreases-loop : tie.decreases-loop
+abbrev decreases-loop : tie.decreases-loop-i
 decreases-loop cs sum₀ i₀ sum i = length cs - i
 
-pub bench-end-spec : {M : Type 1} → statement M
-bench-end-spec =
+pub bench_end_spec : {M : Type 1} → statement M
+bench_end_spec =
     tie.close
     (tie.spec
     invariant-loop

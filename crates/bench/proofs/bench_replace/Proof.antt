@@ -3,14 +3,14 @@ use Rattle.std.proofs.Common.{◌-◌, ◌≤◌, length, arith, rules}
 use Rattle.bench.proofs.bench_replace.Statement.{statement}
 use Rattle.bench.proofs.bench_replace.Tie as tie
 
-abbrev invariant-loop : tie.invariant-loop
+abbrev invariant-loop : tie.invariant-loop-i
 invariant-loop cs sum₀ i₀ sum i = i ≤ length cs
 
-abbrev decreases-loop : tie.decreases-loop
+abbrev decreases-loop : tie.decreases-loop-i
 decreases-loop cs sum₀ i₀ sum i = length cs - i
 
-pub bench-replace-spec : {M : Type 1} → statement M
-bench-replace-spec =
+pub bench_replace_spec : {M : Type 1} → statement M
+bench_replace_spec =
     tie.close
     (tie.spec
     invariant-loop

@@ -3,11 +3,11 @@ use Rattle.std.proofs.Common.{sym, ◌∙◌, rules}
 use Rattle.bench.proofs.bench_start.Statement.{statement}
 use Rattle.bench.proofs.bench_start.Tie as tie
 
-pub bench-start-spec : {M : Type 1} → statement M
-bench-start-spec =
+pub bench_start_spec : {M : Type 1} → statement M
+bench_start_spec =
     tie.close
     (tie.spec
     (λ c κs. search rules)
-    (λ c κs. sym c.before.is_accepted.ensures ∙ c.if1.true)
+    (λ c κs. sym c.is_accepted.ensures ∙ c.if-is_accepted.true)
     (λ c. search rules)
     (λ c. search rules))

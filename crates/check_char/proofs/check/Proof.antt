@@ -5,23 +5,19 @@ use Rattle.check_char.proofs.Answers.{answer_accepted, answer_refused}
 use Rattle.check_char.proofs.check.Statement.{statement}
 use Rattle.check_char.proofs.check.Tie as tie
 
-returns : tie.Need-returns
+returns : tie.Need-returns-in-Ok
 returns c =
-    let k = c.before.before in
-    let d = k.before in
-    answer_accepted _ _ _ k.check-by.ensures c.enum_told.given.1 (sym d.before.is-char.ensures ∙ d.if1.true)
+    answer_accepted _ _ _ c.check_by-checked.ensures c.in-Ok.is (sym c.is_char.ensures ∙ c.if-is_char.true)
 
-returns-2 : tie.Need-returns-2
+returns-2 : tie.Need-returns-in-Err
 returns-2 c =
-    let k = c.before.before.before in
-    let d = k.before in
-    answer_refused _ _ _ k.check-by.ensures _ c.before.checked.given.1 (sym d.before.is-char.ensures ∙ d.if1.true)
+    answer_refused _ _ _ c.check_by-checked.ensures _ c.in-Err.is (sym c.is_char.ensures ∙ c.if-is_char.true)
 
-returns-3 : tie.Need-returns-3
-returns-3 c = simp (sym c.before.is-char.ensures ∙ c.if1.false)
+returns-3 : tie.Need-returns
+returns-3 c = simp (sym c.is_char.ensures ∙ c.if-is_char.false)
 
-pub check-spec : {M : Type 1} → statement M
-check-spec =
+pub check_spec : {M : Type 1} → statement M
+check_spec =
     tie.close
     (tie.spec
     (λ c κs. search rules)

@@ -6,7 +6,7 @@ use Rattle.check_char.proofs.check_basic_text_char.Tie as tie
 
 returns : tie.Need-returns
 unfolding check_numbers
-returns c = c.check-by.ensures
+returns c = c.check_by.ensures
 
-pub check-basic-text-char-spec : {M : Type 1} → statement M
-check-basic-text-char-spec = tie.close (tie.spec (λ c κs. search rules) returns)
+pub check_basic_text_char_spec : {M : Type 1} → statement M
+check_basic_text_char_spec = tie.close (tie.spec (λ c κs. search rules) returns)

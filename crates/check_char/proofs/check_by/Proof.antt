@@ -17,37 +17,36 @@ abbrev keys : List (List ℕ)
 keys = (14 ∷ []) ∷ (13 ∷ []) ∷ (12 ∷ []) ∷ (11 ∷ []) ∷ (10 ∷ []) ∷ (9 ∷ []) ∷ (8 ∷ []) ∷ (7 ∷ []) ∷ (6 ∷ []) ∷ (5 ∷ []) ∷ (3 ∷ []) ∷ (2 ∷ []) ∷ (0 ∷ []) ∷ []
 
 -- the number that is left
-last : (c : tie.At-match-rest) → c.before.reason.result ≡ 16
+last : (c : tie.In_default) → c.reason-number.result ≡ 16
 last c =
     at_point
-    (free_at keys (points reasons) c.match.rest
-    (points_at reasons (hit reasons c.before.reason.result (rw c.before.reason.ensures (reason_listed _)))))
+    (free_at keys (points reasons) c.in_default.in_default-own.rest
+    (points_at reasons (hit reasons c.reason-number.result (rw c.reason-number.ensures (reason_listed _)))))
     (omega arith)
 
-returns-14 : tie.Need-returns-14
+returns-14 : tie.Need-returns-in_default
 returns-14 c =
-    let d = c.before.before in
-    let e = c.listed.ensures ∙ ap three_and_count c.before.replace-by.ensures in
-    ap (λ (l : Replacements). 16 ∷ d.before.before.args.c ∷ list_numbers l) e ∙ says d.before.before.args.units _ 16 _ d.before.reason.ensures (last d)
+    let e = c.listed-yes.ensures ∙ ap three_and_count c.replace_by.ensures in
+    ap (λ (l : Replacements). 16 ∷ c.args.c ∷ list_numbers l) e ∙ says c.args.units _ 16 _ c.reason-number.ensures (last c.before.before)
 
-pub check-by-spec : {M : Type 1} → statement M
-check-by-spec =
+pub check_by_spec : {M : Type 1} → statement M
+check_by_spec =
     tie.close
     (tie.spec
     (λ c κs. search rules)
     (λ c κs. search rules)
     (λ c κs. search rules)
-    (λ c. says _ _ 0 _ c.before.reason.ensures c.match.keys1)
-    (λ c. says _ _ 2 _ c.before.reason.ensures c.match.keys2)
-    (λ c. says _ _ 3 _ c.before.reason.ensures c.match.keys3)
-    (λ c. says _ _ 5 _ c.before.reason.ensures c.match.keys4)
-    (λ c. says _ _ 6 _ c.before.reason.ensures c.match.keys5)
-    (λ c. says _ _ 7 _ c.before.reason.ensures c.match.keys6)
-    (λ c. says _ _ 8 _ c.before.reason.ensures c.match.keys7)
-    (λ c. says _ _ 9 _ c.before.reason.ensures c.match.keys8)
-    (λ c. says _ _ 10 _ c.before.reason.ensures c.match.keys9)
-    (λ c. says _ _ 11 _ c.before.reason.ensures c.match.keys10)
-    (λ c. says _ _ 12 _ c.before.reason.ensures c.match.keys11)
-    (λ c. says _ _ 13 _ c.before.reason.ensures c.match.keys12)
-    (λ c. says _ _ 14 _ c.before.reason.ensures c.match.keys13)
+    (λ c. says _ _ 0 _ c.reason-number.ensures c.in-0.is)
+    (λ c. says _ _ 2 _ c.reason-number.ensures c.in-2.is)
+    (λ c. says _ _ 3 _ c.reason-number.ensures c.in-3.is)
+    (λ c. says _ _ 5 _ c.reason-number.ensures c.in-5.is)
+    (λ c. says _ _ 6 _ c.reason-number.ensures c.in-6.is)
+    (λ c. says _ _ 7 _ c.reason-number.ensures c.in-7.is)
+    (λ c. says _ _ 8 _ c.reason-number.ensures c.in-8.is)
+    (λ c. says _ _ 9 _ c.reason-number.ensures c.in-9.is)
+    (λ c. says _ _ 10 _ c.reason-number.ensures c.in-10.is)
+    (λ c. says _ _ 11 _ c.reason-number.ensures c.in-11.is)
+    (λ c. says _ _ 12 _ c.reason-number.ensures c.in-12.is)
+    (λ c. says _ _ 13 _ c.reason-number.ensures c.in-13.is)
+    (λ c. says _ _ 14 _ c.reason-number.ensures c.in-14.is)
     returns-14)

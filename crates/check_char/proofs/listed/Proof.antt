@@ -3,13 +3,13 @@ use borrow.Author.Rules.{rules}
 use Rattle.check_char.proofs.listed.Statement.{statement}
 use Rattle.check_char.proofs.listed.Tie as tie
 
-pub listed-spec : {M : Type 1} → statement M
-listed-spec =
+pub listed_spec : {M : Type 1} → statement M
+listed_spec =
     tie.close
     (tie.spec
     (λ c. search rules)
     (λ c. search rules)
     (λ c. search rules)
-    (λ c. simp c.before.r.given.1)
-    (λ c. simp c.before.r2.given.1)
-    (λ c. simp c.before.r3.given.1))
+    (λ c. simp c.in-One.is)
+    (λ c. simp c.in-Two.is)
+    (λ c. simp c.in-Three.is))

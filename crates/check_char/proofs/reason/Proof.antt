@@ -69,20 +69,20 @@ key : (ks : List ℕ) (c : ℕ) (a : ℕ) → T (only eqb eqb→eq a refusals (p
 unfolding reason_of
 key ks c a t o = finds_one eqb eqb→eq a (0) refusals (points ks) t (points_at ks o)
 
-way : (i : ℕ) (r : tie.At-match-rest) → Holds (nth ways i) r.before.args.c (0) (reason_of r.before.args.c)
+way : (i : ℕ) (r : tie.In_default-1) → Holds (nth ways i) r.before.args.c (0) (reason_of r.before.args.c)
 unfolding reason_of
-way i r = way_holds eqb eqb→eq refusals keys ways r.before.args.c (0) right r.match.rest i
+way i r = way_holds eqb eqb→eq refusals keys ways r.before.args.c (0) right r.in_default-1.rest i
 
-pub reason-spec : {M : Type 1} → statement M
-reason-spec =
+pub reason_spec : {M : Type 1} → statement M
+reason_spec =
     tie.close
     (tie.spec
-    (λ c. key (0xe0001 ∷ []) _ _ tt c.match.keys2)
-    (λ c. key (0x17d8 ∷ []) _ _ tt c.match.keys3)
-    (λ c. key (0x2028 ∷ []) _ _ tt c.match.keys4)
-    (λ c. key (0x2029 ∷ []) _ _ tt c.match.keys5)
-    (λ c. key (0xfffc ∷ []) _ _ tt c.match.keys6)
-    (λ c. key (0xfeff ∷ []) _ _ tt c.match.keys7)
+    (λ c. key (0xe0001 ∷ []) _ _ tt c.in-917505.is)
+    (λ c. key (0x17d8 ∷ []) _ _ tt c.in-6104.is)
+    (λ c. key (0x2028 ∷ []) _ _ tt c.in-8232.is)
+    (λ c. key (0x2029 ∷ []) _ _ tt c.in-8233.is)
+    (λ c. key (0xfffc ∷ []) _ _ tt c.in-65532.is)
+    (λ c. key (0xfeff ∷ []) _ _ tt c.in-65279.is)
     (λ c. way 0 (search) (omega arith))
     (λ c. way 1 (search) (omega arith))
     (λ c. way 2 (search) (omega arith))
@@ -160,7 +160,7 @@ reason-spec =
     (λ c. way 74 (search) (omega arith))
     (λ c. way 75 (search) (omega arith))
     (λ c. way 76 (search) (omega arith))
-    (λ c. key (0x149 ∷ 0x673 ∷ 0xf77 ∷ 0xf79 ∷ 0x2126 ∷ 0x2df5 ∷ 0xfa10 ∷ 0xfa12 ∷ 0xfa20 ∷ 0xfa22 ∷ 0x111c4 ∷ 0x1d455 ∷ 0x1d49d ∷ 0x1d4ad ∷ 0x1d4ba ∷ 0x1d4bc ∷ 0x1d4c4 ∷ 0x1d506 ∷ 0x1d515 ∷ 0x1d51d ∷ 0x1d53a ∷ 0x1d53f ∷ 0x1d545 ∷ 0x1d551 ∷ []) _ _ tt c.match.keys1)
+    (λ c. key (0x149 ∷ 0x673 ∷ 0xf77 ∷ 0xf79 ∷ 0x2126 ∷ 0x2df5 ∷ 0xfa10 ∷ 0xfa12 ∷ 0xfa20 ∷ 0xfa22 ∷ 0x111c4 ∷ 0x1d455 ∷ 0x1d49d ∷ 0x1d4ad ∷ 0x1d4ba ∷ 0x1d4bc ∷ 0x1d4c4 ∷ 0x1d506 ∷ 0x1d515 ∷ 0x1d51d ∷ 0x1d53a ∷ 0x1d53f ∷ 0x1d545 ∷ 0x1d551 ∷ []) _ _ tt c.in-329.in-329-own.keys1)
     (λ c. way 77 (search) (omega arith))
     (λ c. way 78 (search) (omega arith))
     (λ c. way 79 (search) (omega arith))

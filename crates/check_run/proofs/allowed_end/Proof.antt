@@ -1,7 +1,7 @@
 -- `allowed_end` meets its contract: all characters before the one at hand are allowed. Those of a stretch are newlines and plain
 -- characters, which the check accepts and none of which is ESC.
 use Prim.Native.Nat.{ℕ, ◌+◌, ◌-◌, ◌≤◌, ◌<◌}
-use mathlib.Core.Path.{◌≡◌, sym, ◌∙◌}
+use mathlib.Core.Path.{◌≡◌, sym, ◌∙◌, ap}
 use mathlib.Core.Bool.{Bool, true, false, not}
 use mathlib.Core.List.{List}
 use native.Mathlib.Omega.{arith}
@@ -47,46 +47,41 @@ module _ (cs : List ℕ) (gap : Range) (i : ℕ) (g : Going cs gap i) where
   stepped l b t e next n =
       record { low = omega arith; each = below_more (λ x. allowed (get_or cs x 0) ≡ true) i g.each (sym e ∙ not-false b t); plain = n }
 
-abbrev invariant-loop : tie.invariant-loop
+abbrev invariant-loop : tie.invariant-loop-i
 invariant-loop run gap₀ i₀ gap i = Going run gap i
 
-abbrev decreases-loop : tie.decreases-loop
+abbrev decreases-loop : tie.decreases-loop-i
 decreases-loop run gap₀ i₀ gap i = length run - i
 
-loop-holds : tie.Need-loop-init invariant-loop decreases-loop
-loop-holds c = record { low = omega arith; each = λ x h. absurd (omega arith); plain = c.first-gap.ensures }
+loop-holds : tie.Need-loop-i-init invariant-loop decreases-loop
+loop-holds c = record { low = omega arith; each = λ x h. absurd (omega arith); plain = c.first_gap-gap.ensures }
 
-loop-less : tie.Need-loop-smaller invariant-loop decreases-loop
-loop-less c = omega (arith, c.plain-end.ensures.on, c.plain-end.ensures.low)
+loop-less : tie.Need-loop-i-smaller-then-is_sought invariant-loop decreases-loop
+loop-less c = omega (arith, c.plain_end-i.ensures.on, c.plain_end-i.ensures.low)
 
-loop-again : tie.Need-loop-preserved invariant-loop decreases-loop
+loop-again : tie.Need-loop-i-preserved-then-is_sought invariant-loop decreases-loop
 loop-again c =
-    let s = c.before.before in
-    let o = s.before in
-    let l = o.before.before.before in
-    stretched _ _ _ l.loop.invariant _ c.before.if1.true (rw o.ascii-or.ensures at s.is-sought.ensures) _ c.plain-end.ensures
+    stretched _ _ _ c.loop-i.invariant _ c.if-is_sought.true (rw c.ascii_or.ensures at c.is_sought.ensures) _ c.plain_end-i.ensures
 
-returns : tie.Need-returns invariant-loop decreases-loop
+returns : tie.Need-returns-then-not-is_allowed invariant-loop decreases-loop
 returns c =
-    let g = c.before.before.before.before.before.before.before.loop.invariant in
-    record { low = g.low; each = g.each; then = λ h. sym c.before.is_allowed.ensures ∙ not-true _ c.if2.true }
+    let g = c.loop-i.invariant in
+    record { low = g.low; each = g.each; then = λ h. sym c.is_allowed.ensures ∙ c.if-not-is_allowed.true }
 
-next-gap-requires : tie.Need-next-gap-requires invariant-loop decreases-loop
-next-gap-requires c κs = c.before.before.before.before.before.before.before.loop.invariant.plain
+next-gap-requires : tie.Need-next_gap-gap-requires invariant-loop decreases-loop
+next-gap-requires c κs = c.loop-i.invariant.plain
 
-loop-again-2 : tie.Need-loop-preserved-2 invariant-loop decreases-loop
+loop-again-2 : tie.Need-loop-i-preserved invariant-loop decreases-loop
 loop-again-2 c =
-    let d = c.before in
-    let l = d.before.before.before.before.before.before in
-    stepped _ _ _ l.before.loop.invariant l.loop-test.true _ d.if2.false d.before.is_allowed.ensures _ c.next-gap.ensures
+    stepped _ _ _ c.loop-i.invariant c.loop-i-test.true _ (ap not c.if-not-is_allowed.false) c.is_allowed.ensures _ c.next_gap-gap.ensures
 
-returns-2 : tie.Need-returns-2 invariant-loop decreases-loop
+returns-2 : tie.Need-returns invariant-loop decreases-loop
 returns-2 c =
-    let g = c.before.loop.invariant in
-    record { low = g.low; each = g.each; then = λ h. absurd (omega (arith, h, c.loop-test.false)) }
+    let g = c.loop-i.invariant in
+    record { low = g.low; each = g.each; then = λ h. absurd (omega (arith, h, c.loop-i-test.false)) }
 
-pub allowed-end-spec : {M : Type 1} → statement M
-allowed-end-spec =
+pub allowed_end_spec : {M : Type 1} → statement M
+allowed_end_spec =
     tie.close
     (tie.spec
     invariant-loop

@@ -4,11 +4,11 @@ use Rattle.check_char.proofs.Answers.{accepted, refused}
 use Rattle.check_run.proofs.is_allowed.Statement.{statement}
 use Rattle.check_run.proofs.is_allowed.Tie as tie
 
-returns : tie.Need-returns
-returns c = rw (accepted _ _ c.before.before.check-basic-text-char.ensures c.enum_told.given.1)
+returns : tie.Need-returns-in-Ok
+returns c = rw (accepted _ _ c.check_basic_text_char-checked.ensures c.in-Ok.is)
 
-returns-2 : tie.Need-returns-2
-returns-2 c = rw (refused _ _ c.before.before.check-basic-text-char.ensures _ c.enum-told2.given.1)
+returns-2 : tie.Need-returns-in-Err
+returns-2 c = rw (refused _ _ c.check_basic_text_char-checked.ensures _ c.in-Err.is)
 
-pub is-allowed-spec : {M : Type 1} → statement M
-is-allowed-spec = tie.close (tie.spec (λ c κs. search rules) (λ c. search rules) (λ c. search rules) returns returns-2)
+pub is_allowed_spec : {M : Type 1} → statement M
+is_allowed_spec = tie.close (tie.spec (λ c κs. search rules) (λ c. search rules) (λ c. search rules) returns returns-2)

@@ -18,7 +18,7 @@ rest-added t s e =
     ∙ ap (λ (y : ℕ). (inverse * (y + (2 ^ 32 - addend))) % 2 ^ 32) e
 
 returns : tie.Need-returns
-returns c = c.wrapping-mul.ensures ∙ rest-added _ _ c.before.wrapping-sub-u32.ensures
+returns c = c.wrapping_mul.ensures ∙ rest-added _ _ c.wrapping_sub_u32.ensures
 
-pub back-spec : {M : Type 1} → statement M
-back-spec = tie.close (tie.spec (λ c κs. search rules) (λ c κs. search rules) returns)
+pub back_spec : {M : Type 1} → statement M
+back_spec = tie.close (tie.spec (λ c κs. search rules) (λ c κs. search rules) returns)

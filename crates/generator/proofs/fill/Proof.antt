@@ -46,24 +46,24 @@ module _ (s : ℕ) (out₀ out : List ℕ) (at i : ℕ) (g : Filling s out₀ ou
             ∙ simp (n, drop-length, append-nil),
       )
 
-abbrev invariant-loop : tie.invariant-loop
+abbrev invariant-loop : tie.invariant-loop-i
 invariant-loop state out₀ ls at₀ i₀ out at i = Filling state out₀ out at i
 
-abbrev decreases-loop : tie.decreases-loop
+abbrev decreases-loop : tie.decreases-loop-i
 decreases-loop state out₀ ls at₀ i₀ out at i = length out₀ - i
 
-loop-holds : tie.Need-loop-init invariant-loop decreases-loop
-loop-holds c = begun c.before.args.state c.before.args.out.now
+loop-holds : tie.Need-loop-i-init invariant-loop decreases-loop
+loop-holds c = begun c.args.state c.args.out.now
 
-loop-less : tie.Need-loop-smaller invariant-loop decreases-loop
-loop-less c = omega (arith, c.before.before.loop.invariant.stored.same, c.before.loop-test.true)
+loop-less : tie.Need-loop-i-smaller invariant-loop decreases-loop
+loop-less c = omega (arith, c.loop-i.invariant.stored.same, c.loop-i-test.true)
 
-loop-again : tie.Need-loop-preserved invariant-loop decreases-loop
+loop-again : tie.Need-loop-i-preserved invariant-loop decreases-loop
 unfolding pick_of listed
-loop-again c = filled_more _ _ _ _ _ c.before.before.loop.invariant _ _ c.before.loop-test.true c.next.ensures refl
+loop-again c = filled_more _ _ _ _ _ c.loop-i.invariant _ _ c.loop-i-test.true c.next-at.ensures refl
 
 returns : tie.Need-returns invariant-loop decreases-loop
-returns c = all-filled _ _ _ _ _ c.before.loop.invariant c.loop-test.false
+returns c = all-filled _ _ _ _ _ c.loop-i.invariant c.loop-i-test.false
 
 pub fill_spec : {M : Type 1} → statement M
 fill_spec =
@@ -81,5 +81,5 @@ fill_spec =
     (λ c. search rules)
     loop-less
     loop-again
-    (λ c. c.before.loop.invariant.stored.same)
+    (λ c. c.loop-i.invariant.stored.same)
     returns)

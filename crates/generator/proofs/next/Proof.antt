@@ -9,7 +9,7 @@ use Rattle.generator.proofs.next.Lts as lts
 
 returns : tie.Need-returns
 unfolding next_of
-returns c = simp (c.wrapping-add-u32.ensures, c.before.wrapping-mul.ensures, mod-add-mod)
+returns c = simp (c.wrapping_add_u32.ensures, c.wrapping_mul.ensures, mod-add-mod)
 
-pub next-spec : {M : Type 1} → statement M
-next-spec = tie.close (tie.spec (λ c κs. search rules) (λ c κs. search rules) returns)
+pub next_spec : {M : Type 1} → statement M
+next_spec = tie.close (tie.spec (λ c κs. search rules) (λ c κs. search rules) returns)

@@ -6,7 +6,7 @@ use Rattle.isolate_unassigned.proofs.is_isolated.Tie as tie
 
 returns : tie.Need-returns
 unfolding to_isolate
-returns c p e = rw (← e, c.is-private-use-area.ensures)
+returns c p e = rw (← e, c.is_private_use_area.ensures)
 
-pub is-isolated-spec : {M : Type 1} → statement M
-is-isolated-spec = tie.close (tie.spec (λ c κs. search rules) returns)
+pub is_isolated_spec : {M : Type 1} → statement M
+is_isolated_spec = tie.close (tie.spec (λ c κs. search rules) returns)

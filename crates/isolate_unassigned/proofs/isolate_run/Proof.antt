@@ -12,57 +12,49 @@ use Rattle.isolate_unassigned.proofs.Run.{isolate_way, left, moved, fits_last, s
 use Rattle.isolate_unassigned.proofs.isolate_run.Statement.{statement}
 use Rattle.isolate_unassigned.proofs.isolate_run.Tie as tie
 
-abbrev invariant-loop : tie.invariant-loop
+abbrev invariant-loop : tie.invariant-loop-i
 invariant-loop page chars out₀ base near₀ r₀ k₀ i₀ out near r k i =
     Going (isolate_way page) chars 0 out₀ fresh out r k i × (Assigned page near × Assigned page base)
 
-abbrev decreases-loop : tie.decreases-loop
+abbrev decreases-loop : tie.decreases-loop-i
 decreases-loop page chars out₀ base near₀ r₀ k₀ i₀ out near r k i = length chars - i
 
-abbrev start : tie.At-loop invariant-loop decreases-loop → tie.Start invariant-loop decreases-loop
-start c = c.before.before.before.before.before.before
-
-loop-holds : tie.Need-loop-init invariant-loop decreases-loop
+loop-holds : tie.Need-loop-i-init invariant-loop decreases-loop
 loop-holds c =
-    let s = c.before.assigned-range.ensures.members in
-    (rw c.new.ensures (begin _ _ _ _ _ (omega arith)), (s, s))
+    let s = c.assigned_range-base.ensures.members in
+    (rw c.new-r.ensures (begin _ _ _ _ _ (omega arith)), (s, s))
 
-advance-requires : tie.Need-advance-requires invariant-loop decreases-loop
+advance-requires : tie.Need-advance-moved-requires invariant-loop decreases-loop
 advance-requires c κs =
-    let l = c.before.before in
-    let a = (start l).requires in
-    let g = l.loop.invariant in
-    (a.0, (c.before.loop-test.true, (g.1.1, (g.1.0, left _ _ _ _ _ _ _ g.0 a.0 a.1))))
+    let a = c.requires in
+    let g = c.loop-i.invariant in
+    (a.0, (c.loop-i-test.true, (g.1.1, (g.1.0, left _ _ _ _ _ _ _ g.0 a.0 a.1))))
 
-loop-less : tie.Need-loop-smaller invariant-loop decreases-loop
+loop-less : tie.Need-loop-i-smaller invariant-loop decreases-loop
 loop-less c =
-    let v = c.before.before.before.before.advance.ensures in
+    let v = c.advance-moved.ensures in
     omega (arith, v.on, v.under)
 
-loop-again : tie.Need-loop-preserved invariant-loop decreases-loop
+loop-again : tie.Need-loop-i-preserved invariant-loop decreases-loop
 loop-again c =
-    let a = c.before.before.before.before in
-    let g = a.before.before.before.loop.invariant in
-    (moved _ _ _ _ _ _ _ g.0 _ _ a.advance.ensures, (a.advance.ensures.near, g.1.1))
+    let g = c.loop-i.invariant in
+    (moved _ _ _ _ _ _ _ g.0 _ _ c.advance-moved.ensures, (c.advance-moved.ensures.near, g.1.1))
 
-slice-write-out : tie.Need-slice-write-out invariant-loop decreases-loop
+slice-write-out : tie.Need-bounds-out-k invariant-loop decreases-loop
 slice-write-out c =
-    let e = c.before.before in
-    let a = (start e.before).pre in
-    fits_last _ _ _ _ _ _ _ e.before.loop.invariant.0 a.0 e.loop-test.false a.1 (sym c.before.finish.ensures ∙ c.if1.true)
+    let a = c.requires in
+    fits_last _ _ _ _ _ _ _ c.loop-i.invariant.0 a.0 c.loop-i-test.false a.1 (sym c.finish.ensures ∙ c.if-finish.true)
 
-returns : tie.Need-returns invariant-loop decreases-loop
+returns : tie.Need-returns-then-finish invariant-loop decreases-loop
 returns c =
-    let e = c.before.before in
-    stored_owed _ _ _ _ _ _ _ e.before.loop.invariant.0 (start e.before).pre.0 e.loop-test.false (sym c.before.finish.ensures ∙ c.if1.true)
+    stored_owed _ _ _ _ _ _ _ c.loop-i.invariant.0 c.requires.0 c.loop-i-test.false (sym c.finish.ensures ∙ c.if-finish.true)
 
-returns-2 : tie.Need-returns-2 invariant-loop decreases-loop
+returns-2 : tie.Need-returns invariant-loop decreases-loop
 returns-2 c =
-    let e = c.before.before in
-    stored _ _ _ _ _ _ _ e.before.loop.invariant.0 (start e.before).pre.0 e.loop-test.false (sym c.before.finish.ensures ∙ c.if1.false)
+    stored _ _ _ _ _ _ _ c.loop-i.invariant.0 c.requires.0 c.loop-i-test.false (sym c.finish.ensures ∙ c.if-finish.false)
 
-pub isolate-run-spec : {M : Type 1} → statement M
-isolate-run-spec =
+pub isolate_run_spec : {M : Type 1} → statement M
+isolate_run_spec =
     tie.close
     (tie.spec
     invariant-loop
@@ -77,7 +69,7 @@ isolate-run-spec =
     (λ c. omega (arith, slice-write-out c))
     slice-write-out
     (λ c. omega (arith, slice-write-out c))
-    (λ c. simp length-set c.before.before.before.loop.invariant.0.same)
+    (λ c. simp length-set c.loop-i.invariant.0.same)
     returns
-    (λ c. c.before.before.before.loop.invariant.0.same)
+    (λ c. c.loop-i.invariant.0.same)
     returns-2)

@@ -7,18 +7,16 @@ use Rattle.isolate_unassigned.proofs.Stretch.{either_assigned}
 use Rattle.isolate_unassigned.proofs.nearer.Statement.{statement}
 use Rattle.isolate_unassigned.proofs.nearer.Tie as tie
 
-returns : tie.Need-returns
+returns : tie.Need-returns-then-is_sought
 returns c =
-    let s = c.before in
-    let a = s.before.before.before in
-    let t = sym (ap (λ (q : Sought). in_sought q a.args.c) s.before.either.ensures) ∙ sym s.is-sought.ensures ∙ c.if1.true in
-    record { members = a.requires.1.1; tells = sym (either_assigned _ _ _ a.requires.1.0 a.requires.1.1 _ t) }
+    let t = sym (ap (λ (q : Sought). in_sought q c.args.c) c.either.ensures) ∙ sym c.is_sought.ensures ∙ c.if-is_sought.true in
+    record { members = c.requires.1.1; tells = sym (either_assigned _ _ _ c.requires.1.0 c.requires.1.1 _ t) }
 
-returns-2 : tie.Need-returns-2
+returns-2 : tie.Need-returns
 returns-2 c =
-    let f = c.before.assigned-range.ensures in
-    record { members = f.members; tells = c.in_range_lem.ensures ∙ f.has }
+    let f = c.assigned_range-range.ensures in
+    record { members = f.members; tells = c.in_range.ensures ∙ f.has }
 
-pub nearer-spec : {M : Type 1} → statement M
-nearer-spec =
+pub nearer_spec : {M : Type 1} → statement M
+nearer_spec =
     tie.close (tie.spec (λ c κs. search rules) (λ c κs. search rules) returns (λ c κs. search rules) (λ c κs. search rules) returns-2)

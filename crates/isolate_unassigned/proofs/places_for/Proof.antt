@@ -10,6 +10,6 @@ some : (n : ℕ) → (n ≡ 0 → ⊥) → 2 * n + 1 ≡ places_for_run n
 some zero h = absurd (h refl)
 some (suc n) h = refl
 
-pub places-for-spec : {M : Type 1} → statement M
-places-for-spec =
-    tie.close (tie.spec (λ c. simp c.if1.true) (λ c. search rules) (λ c. search rules) (λ c. some _ c.if1.false))
+pub places_for_spec : {M : Type 1} → statement M
+places_for_spec =
+    tie.close (tie.spec (λ c. simp c.if-chars-eq0.true) (λ c. search rules) (λ c. search rules) (λ c. some _ c.if-chars-eq0.false))

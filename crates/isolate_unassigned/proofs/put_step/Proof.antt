@@ -32,38 +32,36 @@ two-done : (s : Isolated) (out : List ℕ) (k j d : ℕ) (next : IsolateUnassign
     Done s out k (k + 2) next (set (set out k j) (k + 1) d)
 two-done s out k j d next e = rw (e, add-one k) (refl, (refl, refl))
 
-slice-write-out : tie.Need-slice-write-out
+slice-write-out : tie.Need-bounds-out-k
 slice-write-out c =
-    let a = c.before.before.before in
-    one-room _ a.args.out.now _ a.requires _ _ c.before.step.given.1
+    one-room _ c.args.out.now _ c.requires _ _ c.in-One.is
 
 -- there is room for both
-two : (c : tie.After-known-told2) → c.before.before.before.args.k + 1 < length c.before.before.before.args.out.now
+two : (c : tie.In-Two) → c.args.k + 1 < length c.args.out.now
 two c =
-    let a = c.before.before.before in
-    two-room _ a.args.out.now _ a.requires _ _ _ c.before.step2.given.1
+    two-room _ c.args.out.now _ c.requires _ _ _ c.in-Two.is
 
-slice-write-out-2 : tie.Need-slice-write-out-2
+slice-write-out-2 : tie.Need-bounds-out-k-in-Two
 slice-write-out-2 c = omega (arith, two c)
 
-slice-write-out-3 : tie.Need-slice-write-out-3
+slice-write-out-3 : tie.Need-bounds-out-k-in-Two-2
 slice-write-out-3 c = simp length-set (two c)
 
-returns : tie.Need-returns
-returns c = one-done _ _ _ _ _ c.before.step.given.1
+returns : tie.Need-returns-in-One
+returns c = one-done _ _ _ _ _ c.in-One.is
 
-returns-2 : tie.Need-returns-2
-returns-2 c = two-done _ _ _ _ _ _ c.before.step2.given.1
+returns-2 : tie.Need-returns-in-Two
+returns-2 c = two-done _ _ _ _ _ _ c.in-Two.is
 
-pub put-step-spec : {M : Type 1} → statement M
-put-step-spec =
+pub put_step_spec : {M : Type 1} → statement M
+put_step_spec =
     tie.close
     (tie.spec
-    (λ c. c.match.keys1)
+    (λ c. c.in-One-1.keys1)
     (λ c. search rules)
     slice-write-out
     (λ c. search rules)
-    (λ c. c.match.keys2)
+    (λ c. c.in-Two-1.keys2)
     (λ c. search rules)
     slice-write-out-2
     (λ c. search rules)

@@ -6,7 +6,7 @@ use Rattle.page.proofs.PageLaws.{facts_of_accepted}
 use Rattle.page.proofs.assigned_range.Statement.{statement}
 use Rattle.page.proofs.assigned_range.Tie as tie
 
-range-of-requires : tie.Need-range-of-requires
+range-of-requires : tie.Need-range_of-requires
 range-of-requires c κs =
     let facts = facts_of_accepted _ c.before.before.before.before.before.before.requires in
     cc
@@ -14,14 +14,14 @@ range-of-requires c κs =
 returns : tie.Need-returns
 unfolding assigned
 returns c =
-    let found = c.range-of.ensures in
+    let found = c.range_of.ensures in
     record {
       members = λ x h. let e = found.members x h in cc;
       has = cc;
     }
 
-pub assigned-range-spec : {M : Type 1} → statement M
-assigned-range-spec =
+pub assigned_range_spec : {M : Type 1} → statement M
+assigned_range_spec =
     tie.close
     (tie.spec
     (λ c κs. (facts_of_accepted _ c.before.requires).sizes.long)

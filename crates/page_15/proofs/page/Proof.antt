@@ -8,5 +8,5 @@ returns : tie.Need-returns
 unfolding numbers
 returns c = refl
 
-pub page-spec : {M : Type 1} → statement M
-page-spec = tie.close (tie.spec returns)
+pub page_spec : {M : Type 1} → statement M
+page_spec = tie.close (tie.spec returns)

@@ -4,6 +4,6 @@ use borrow.Author.Rules.{rules}
 use Rattle.ranges.proofs.in_packed.Statement.{statement}
 use Rattle.ranges.proofs.in_packed.Tie as tie
 
-pub in-packed-spec : {M : Type 1} → statement M
-in-packed-spec =
-    tie.close (tie.spec (λ c κs. search rules) (λ c κs. search rules) (λ c. c.in_range_lem.ensures ∙ c.before.packed-range-of.ensures.has))
+pub in_packed_spec : {M : Type 1} → statement M
+in_packed_spec =
+    tie.close (tie.spec (λ c κs. search rules) (λ c κs. search rules) (λ c. c.in_range.ensures ∙ c.before.packed_range_of.ensures.has))

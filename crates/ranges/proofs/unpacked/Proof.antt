@@ -8,7 +8,7 @@ use Rattle.ranges.specs.Packed.{first_in, last_in}
 use Rattle.ranges.proofs.unpacked.Statement.{statement}
 use Rattle.ranges.proofs.unpacked.Tie as tie
 
-add-t4 : tie.Need-add-t4
+add-t4 : tie.Need-overflow_add-result
 add-t4 c = record { fits = omega (arith, mask_lt c.args.n 21) }
 
 -- the range from f on whose last is d past it
@@ -19,5 +19,5 @@ returns : tie.Need-returns
 unfolding first_in last_in
 returns c = ap (λ (f : ℕ). from f (c.args.n / 2 ^ 21)) (and_mask c.args.n 21)
 
-pub unpacked-spec : {M : Type 1} → statement M
-unpacked-spec = tie.close (tie.spec add-t4 returns)
+pub unpacked_spec : {M : Type 1} → statement M
+unpacked_spec = tie.close (tie.spec add-t4 returns)

@@ -78,31 +78,31 @@ key : (ks : List ℕ) (c : ℕ) (a : Replaced) → T (only same_replaced same_re
 unfolding replace_of
 key ks c a t o = finds_one same_replaced same_replaced→eq a (One c) replacements (points ks) t (points_at ks o)
 
-way : (i : ℕ) (r : tie.At-match-rest) → Holds (nth ways i) r.before.args.c (One r.before.args.c) (replace_of false r.before.args.c)
+way : (i : ℕ) (r : tie.In_default-1) → Holds (nth ways i) r.before.args.c (One r.before.args.c) (replace_of false r.before.args.c)
 unfolding replace_of
-way i r = way_holds same_replaced same_replaced→eq replacements keys ways r.before.args.c (One r.before.args.c) right r.match.rest i
+way i r = way_holds same_replaced same_replaced→eq replacements keys ways r.before.args.c (One r.before.args.c) right r.in_default-1.rest i
 
 pub replace_spec : {M : Type 1} → statement M
 replace_spec =
     tie.close
     (tie.spec
-    (λ c. key (0xfeff ∷ []) _ _ tt c.match.keys1)
-    (λ c. key (0x149 ∷ []) _ _ tt c.match.keys2)
-    (λ c. key (0x673 ∷ []) _ _ tt c.match.keys3)
-    (λ c. key (0xf77 ∷ []) _ _ tt c.match.keys4)
-    (λ c. key (0xf79 ∷ []) _ _ tt c.match.keys5)
-    (λ c. key (0x17a3 ∷ []) _ _ tt c.match.keys6)
-    (λ c. key (0x17a4 ∷ []) _ _ tt c.match.keys7)
-    (λ c. key (0x2df5 ∷ []) _ _ tt c.match.keys8)
-    (λ c. key (0x111c4 ∷ []) _ _ tt c.match.keys9)
-    (λ c. key (0xfb00 ∷ []) _ _ tt c.match.keys10)
-    (λ c. key (0xfb01 ∷ []) _ _ tt c.match.keys11)
-    (λ c. key (0xfb02 ∷ []) _ _ tt c.match.keys12)
-    (λ c. key (0xfb03 ∷ []) _ _ tt c.match.keys13)
-    (λ c. key (0xfb04 ∷ []) _ _ tt c.match.keys14)
-    (λ c. key (0xfb05 ∷ []) _ _ tt c.match.keys15)
-    (λ c. key (0xfb06 ∷ []) _ _ tt c.match.keys16)
-    (λ c. key (0xc ∷ 0x85 ∷ []) _ _ tt c.match.keys17)
+    (λ c. key (0xfeff ∷ []) _ _ tt c.in-65279.is)
+    (λ c. key (0x149 ∷ []) _ _ tt c.in-329.is)
+    (λ c. key (0x673 ∷ []) _ _ tt c.in-1651.is)
+    (λ c. key (0xf77 ∷ []) _ _ tt c.in-3959.is)
+    (λ c. key (0xf79 ∷ []) _ _ tt c.in-3961.is)
+    (λ c. key (0x17a3 ∷ []) _ _ tt c.in-6051.is)
+    (λ c. key (0x17a4 ∷ []) _ _ tt c.in-6052.is)
+    (λ c. key (0x2df5 ∷ []) _ _ tt c.in-11765.is)
+    (λ c. key (0x111c4 ∷ []) _ _ tt c.in-70084.is)
+    (λ c. key (0xfb00 ∷ []) _ _ tt c.in-64256.is)
+    (λ c. key (0xfb01 ∷ []) _ _ tt c.in-64257.is)
+    (λ c. key (0xfb02 ∷ []) _ _ tt c.in-64258.is)
+    (λ c. key (0xfb03 ∷ []) _ _ tt c.in-64259.is)
+    (λ c. key (0xfb04 ∷ []) _ _ tt c.in-64260.is)
+    (λ c. key (0xfb05 ∷ []) _ _ tt c.in-64261.is)
+    (λ c. key (0xfb06 ∷ []) _ _ tt c.in-64262.is)
+    (λ c. key (0xc ∷ 0x85 ∷ []) _ _ tt c.in-12.is)
     (λ c. way 0 (search) (omega arith))
     (λ c. way 1 (search) (omega arith))
     (λ c. way 2 (search) (omega arith))
@@ -145,7 +145,7 @@ replace_spec =
     (λ c. way 39 (search) (omega arith))
     (λ c. way 40 (search) (omega arith))
     (λ c. way 41 (search) (omega arith))
-    (λ c. key (0xb ∷ 0x17d8 ∷ 0x1d455 ∷ 0x1d49d ∷ 0x1d4ad ∷ 0x1d4ba ∷ 0x1d4bc ∷ 0x1d4c4 ∷ 0x1d506 ∷ 0x1d515 ∷ 0x1d51d ∷ 0x1d53a ∷ 0x1d53f ∷ 0x1d545 ∷ 0x1d551 ∷ 0xe0001 ∷ []) _ _ tt c.match.keys18)
+    (λ c. key (0xb ∷ 0x17d8 ∷ 0x1d455 ∷ 0x1d49d ∷ 0x1d4ad ∷ 0x1d4ba ∷ 0x1d4bc ∷ 0x1d4c4 ∷ 0x1d506 ∷ 0x1d515 ∷ 0x1d51d ∷ 0x1d53a ∷ 0x1d53f ∷ 0x1d545 ∷ 0x1d551 ∷ 0xe0001 ∷ []) _ _ tt c.in-0-to-8.in-0-to-8-own.keys18)
     (λ c. way 42 (search) (omega arith))
     (λ c. way 43 (search) (omega arith))
     (λ c. way 44 (search) (omega arith))

@@ -13,17 +13,17 @@ use Rattle.replace.specs.Replace.{replace_of}
 use Rattle.replace.proofs.replace_by.Statement.{statement}
 use Rattle.replace.proofs.replace_by.Tie as tie
 
-returns : tie.Need-returns
+returns : tie.Need-returns-in-8486
 unfolding replace_of
-returns c = simp (c.match.keys1, c.before.if1.true)
+returns c = simp (c.in-8486.is, c.if-units.true)
 
-returns-2 : tie.Need-returns-2
+returns-2 : tie.Need-returns-in-8490
 unfolding replace_of
-returns-2 c = simp (c.match.keys2, c.before.if1.true)
+returns-2 c = simp (c.in-8490.is, c.if-units.true)
 
-returns-3 : tie.Need-returns-3
+returns-3 : tie.Need-returns-in-8491
 unfolding replace_of
-returns-3 c = simp (c.match.keys3, c.before.if1.true)
+returns-3 c = simp (c.in-8491.is, c.if-units.true)
 
 no_row : (k c : ℕ) → (c ≡ k → ⊥) → has (one k) c ≡ false
 no_row k c n =
@@ -38,10 +38,10 @@ others units c e a b d = rw (e, no_row 0x2126 c a, no_row 0x212a c b, no_row 0x2
 off : (units : Bool) (c : ℕ) → units ≡ false → replace_of false c ≡ replace_of units c
 off units c e = rw e
 
-returns-4 : tie.Need-returns-4
+returns-4 : tie.Need-returns
 returns-4 c =
     c.replace.ensures ∙
-    ⊎_elim (λ w. others _ _ w.0.taken w.1.rest.0.0.1 w.1.rest.0.1 w.1.rest.1) (λ w. off _ _ w.left) c.before.if1.branch
+    ⊎_elim (λ w. others _ _ w.if-units.true w.in_default.in_default-own.rest.0.0.1 w.in_default.in_default-own.rest.0.1 w.in_default.in_default-own.rest.1) (λ w. off _ _ w.if-units.false) c.if-units.branch-raw
 
-pub replace-by-spec : {M : Type 1} → statement M
-replace-by-spec = tie.close (tie.spec returns returns-2 returns-3 (λ c κs. search rules) returns-4)
+pub replace_by_spec : {M : Type 1} → statement M
+replace_by_spec = tie.close (tie.spec returns returns-2 returns-3 (λ c κs. search rules) returns-4)

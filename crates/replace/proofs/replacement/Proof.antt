@@ -7,13 +7,12 @@ use Rattle.replace.specs.Replace.{chars}
 use Rattle.replace.proofs.replacement.Statement.{statement}
 use Rattle.replace.proofs.replacement.Tie as tie
 
-returns : tie.Need-returns
+returns : tie.Need-returns-then-is_char
 returns c =
-    let d = c.before in
-    ap (λ (r : Replaced). 0 ∷ chars r) c.replace-by.ensures ∙ simp (sym d.before.is-char.ensures ∙ d.if1.true)
+    ap (λ (r : Replaced). 0 ∷ chars r) c.replace_by.ensures ∙ simp (sym c.is_char.ensures ∙ c.if-is_char.true)
 
-returns-2 : tie.Need-returns-2
-returns-2 c = simp (sym c.before.is-char.ensures ∙ c.if1.false)
+returns-2 : tie.Need-returns
+returns-2 c = simp (sym c.is_char.ensures ∙ c.if-is_char.false)
 
-pub replacement-spec : {M : Type 1} → statement M
-replacement-spec = tie.close (tie.spec (λ c κs. search rules) (λ c κs. search rules) returns returns-2)
+pub replacement_spec : {M : Type 1} → statement M
+replacement_spec = tie.close (tie.spec (λ c κs. search rules) (λ c κs. search rules) returns returns-2)

@@ -12,26 +12,26 @@ use Rattle.scalars.specs.Chars.{is_char, are_chars}
 use Rattle.scalars.proofs.are_chars.Statement.{statement}
 use Rattle.scalars.proofs.are_chars.Tie as tie
 
-abbrev invariant-loop : tie.invariant-loop
+abbrev invariant-loop : tie.invariant-loop-i
 invariant-loop chars good₀ i₀ good i = (i ≤ length chars) × (good && are_chars (drop i chars) ≡ are_chars chars)
 
-abbrev decreases-loop : tie.decreases-loop
+abbrev decreases-loop : tie.decreases-loop-i
 decreases-loop chars good₀ i₀ good i = length chars - i
 
 turn : (cs : List ℕ) (i : ℕ) (good b : Bool) → i < length cs → b ≡ is_char (get_or cs i 0) → (good && b) && are_chars (drop (i + 1) cs) ≡ good && are_chars (drop i cs)
 turn cs i good b h e = rw (and_assoc, e, add-one, drop-cons cs i 0)
 
-loop-again : tie.Need-loop-preserved invariant-loop decreases-loop
+loop-again : tie.Need-loop-i-preserved invariant-loop decreases-loop
 loop-again c =
-    let l = c.before.before.before.loop in
-    (search rules, turn _ l.i l.good c.is-char.result c.before.before.loop-test.true c.is-char.ensures ∙ l.invariant.1)
+    let l = c.loop-i in
+    (search rules, turn _ l.i l.good c.is_char-good.result c.loop-i-test.true c.is_char-good.ensures ∙ l.invariant.1)
 
 returns : tie.Need-returns invariant-loop decreases-loop
 returns c =
-    sym (and-true c.before.loop.good) ∙ rw (drop_of_length-le _ c.loop-test.false) at c.before.loop.invariant.1
+    sym (and-true c.loop-i.good) ∙ rw (drop_of_length-le _ c.loop-i-test.false) at c.loop-i.invariant.1
 
-pub are-chars-spec : {M : Type 1} → statement M
-are-chars-spec =
+pub are_chars_spec : {M : Type 1} → statement M
+are_chars_spec =
     tie.close
     (tie.spec
     invariant-loop

@@ -8,5 +8,5 @@ returns : tie.Need-returns
 unfolding is_char
 returns c = refl
 
-pub is-char-spec : {M : Type 1} → statement M
-is-char-spec = tie.close (tie.spec returns)
+pub is_char_spec : {M : Type 1} → statement M
+is_char_spec = tie.close (tie.spec returns)

@@ -35,16 +35,15 @@ module _ (s : List ℕ) (at : ℕ) (q : Sought) where
   ended : (good : Bool) (j : ℕ) → Going s at q good j → at + 16 ≤ j → good ≡ true → Each q s at (at + 16)
   ended good j g l t = let e : j ≡ at + 16 = omega (arith, g.low) in rw e at (g.each t)
 
-abbrev invariant-loop : tie.invariant-loop
+abbrev invariant-loop : tie.invariant-loop-j
 invariant-loop s at q good₀ j₀ good j = Going s at q good j
 
-abbrev decreases-loop : tie.decreases-loop
+abbrev decreases-loop : tie.decreases-loop-j
 decreases-loop s at q good₀ j₀ good j = at + 16 - j
 
-loop-again : tie.Need-loop-preserved invariant-loop decreases-loop
+loop-again : tie.Need-loop-j-preserved invariant-loop decreases-loop
 loop-again c =
-    let l = c.before.before.before in
-    again _ _ _ _ _ l.loop.invariant (omega (arith, c.before.before.loop-test.true)) _ c.is-sought.ensures
+    again _ _ _ _ _ c.loop-j.invariant (omega (arith, c.loop-j-test.true)) _ c.is_sought-good.ensures
 
 pub block_spec : {M : Type 1} → statement M
 block_spec =
@@ -60,4 +59,4 @@ block_spec =
     (λ c. search rules)
     (λ c. search rules)
     loop-again
-    (λ c. ended _ _ _ _ _ c.before.loop.invariant (omega (arith, c.loop-test.false))))
+    (λ c. ended _ _ _ _ _ c.loop-j.invariant (omega (arith, c.loop-j-test.false))))

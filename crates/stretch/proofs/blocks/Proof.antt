@@ -9,28 +9,27 @@ use Rattle.stretch.proofs.Seeking.{nothing, one_more}
 use Rattle.stretch.proofs.blocks.Statement.{statement}
 use Rattle.stretch.proofs.blocks.Tie as tie
 
-abbrev invariant-loop : tie.invariant-loop
+abbrev invariant-loop : tie.invariant-loop-i
 invariant-loop s from q i₀ i = Stretch q s from i
 
-abbrev decreases-loop : tie.decreases-loop
+abbrev decreases-loop : tie.decreases-loop-i
 decreases-loop s from q i₀ i = length s - i
 
-loop-again : tie.Need-loop-preserved invariant-loop decreases-loop
+loop-again : tie.Need-loop-i-preserved invariant-loop decreases-loop
 loop-again c =
-    let l = c.before.before.before in
-    one_more _ _ _ _ _ l.loop.invariant (omega arith) (omega (arith, l.loop.invariant.low)) (c.before.block.ensures (not-false _ c.if1.false))
+    one_more _ _ _ _ _ c.loop-i.invariant (omega arith) (omega (arith, c.loop-i.invariant.low)) (c.block.ensures c.if-not-block.false)
 
-pub blocks-spec : {M : Type 1} → statement M
-blocks-spec =
+pub blocks_spec : {M : Type 1} → statement M
+blocks_spec =
     tie.close
     (tie.spec
     invariant-loop
     decreases-loop
-    (λ c. nothing _ _ _ c.before.requires)
+    (λ c. nothing _ _ _ c.requires)
     (λ c. search rules)
-    (λ c κs. omega (arith, c.before.loop.invariant.low))
-    (λ c. c.before.before.before.loop.invariant)
+    (λ c κs. omega (arith, c.loop-i.invariant.low))
+    (λ c. c.loop-i.invariant)
     (λ c. search rules)
-    (λ c. let l = c.before.before.before.loop.invariant.low in omega arith)
+    (λ c. let l = c.loop-i.invariant.low in omega arith)
     loop-again
-    (λ c. c.before.loop.invariant))
+    (λ c. c.loop-i.invariant))

@@ -4,19 +4,17 @@ use Rattle.stretch.proofs.Seeking.{first_within, four}
 use Rattle.stretch.proofs.either_end.Statement.{statement}
 use Rattle.stretch.proofs.either_end.Tie as tie
 
-returns : tie.Need-returns
-returns c = rw c.before.before.either.ensures at c.before.few.ensures
+returns : tie.Need-returns-then-a-from-lt4
+returns c = rw c.either-sought.ensures at c.few-a.ensures
 
-returns-2 : tie.Need-returns-2
+returns-2 : tie.Need-returns
 returns-2 c =
-    let l = c.before.before.before in
-    let f = l.before.before.before in
-    let e = f.before.either.ensures in
-    let n = rw l.before.no-range.ensures at l.either2.ensures in
-    four _ _ _ (first_within _ _) _ _ _ _ _ (rw e at f.few.ensures) (rw n at c.before.before.blocks2.ensures) (rw e at c.before.blocks3.ensures) (rw e at c.few2.ensures)
+    let e = c.either-sought.ensures in
+    let n = rw c.no_range.ensures at c.either.ensures in
+    four _ _ _ (first_within _ _) _ _ _ _ _ (rw e at c.few-a.ensures) (rw n at c.blocks-b.ensures) (rw e at c.blocks-c.ensures) (rw e at c.few.ensures)
 
-pub either-end-spec : {M : Type 1} → statement M
-either-end-spec =
+pub either_end_spec : {M : Type 1} → statement M
+either_end_spec =
     tie.close
     (tie.spec
     (λ c κs. search rules)

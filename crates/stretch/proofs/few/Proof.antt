@@ -35,34 +35,33 @@ module _ (s : List ℕ) (from : ℕ) (q : Sought) (stop : ℕ) where
   ended : (i : ℕ) → Going s from q stop i → Stretch q s from i
   ended i g = record { on = g.begun; low = omega (arith, g.low, g.in-s); each = g.each }
 
-abbrev invariant-loop : tie.invariant-loop
+abbrev invariant-loop : tie.invariant-loop-i
 invariant-loop s from most q stop i₀ i = Going s from q stop i
 
-abbrev decreases-loop : tie.decreases-loop
+abbrev decreases-loop : tie.decreases-loop-i
 decreases-loop s from most q stop i₀ i = stop - i
 
-loop-holds : tie.Need-loop-init invariant-loop decreases-loop
+loop-holds : tie.Need-loop-i-init invariant-loop decreases-loop
 loop-holds c = let l = c.lesser.ensures in begin _ _ _ _ (omega arith) (omega arith)
 
-mul : tie.Need-overflow-mul-is-sought invariant-loop decreases-loop
+mul : tie.Need-offset_bounds-s-i invariant-loop decreases-loop
 mul c =
-    let g = c.before.loop.invariant in
-    let h : c.before.loop.i < length c.before.before.before.before.args.s.now = omega (arith, g.low, g.in-s) in
+    let g = c.loop-i.invariant in
+    let h : c.loop-i.i < length c.args.s.now = omega (arith, g.low, g.in-s) in
     search rules
 
-read : tie.Need-shared-slice-read-is-sought invariant-loop decreases-loop
-read c = let g = c.before.before.loop.invariant in omega (arith, g.low, g.in-s)
+read : tie.Need-bounds-s-i invariant-loop decreases-loop
+read c = let g = c.loop-i.invariant in omega (arith, g.low, g.in-s)
 
-add-i : tie.Need-overflow-add-i invariant-loop decreases-loop
-add-i c = let g = c.before.before.before.before.loop.invariant in omega (arith, g.low, g.in-s)
+add-i : tie.Need-overflow_add-i invariant-loop decreases-loop
+add-i c = let g = c.loop-i.invariant in omega (arith, g.low, g.in-s)
 
-loop-again : tie.Need-loop-preserved invariant-loop decreases-loop
+loop-again : tie.Need-loop-i-preserved invariant-loop decreases-loop
 loop-again c =
-    let l = c.before.before.before.before in
-    again _ _ _ _ _ l.loop.invariant c.before.before.before.loop-test.true _ c.before.is-sought.ensures (not-false _ c.if1.false)
+    again _ _ _ _ _ c.loop-i.invariant c.loop-i-test.true _ c.is_sought.ensures c.if-not-is_sought.false
 
-pub few-spec : {M : Type 1} → statement M
-few-spec =
+pub few_spec : {M : Type 1} → statement M
+few_spec =
     tie.close
     (tie.spec
     invariant-loop
@@ -74,8 +73,8 @@ few-spec =
     mul
     read
     (λ c κs. search rules)
-    (λ c. ended _ _ _ _ _ c.before.before.before.before.loop.invariant)
+    (λ c. ended _ _ _ _ _ c.loop-i.invariant)
     add-i
     (λ c. search rules)
     loop-again
-    (λ c. ended _ _ _ _ _ c.before.loop.invariant))
+    (λ c. ended _ _ _ _ _ c.loop-i.invariant))

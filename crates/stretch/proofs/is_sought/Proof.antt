@@ -6,7 +6,7 @@ use Rattle.stretch.proofs.is_sought.Tie as tie
 
 returns : tie.Need-returns
 unfolding in_gap
-returns c = rw (c.before.before.in_range_lem.ensures, c.before.in-range2.ensures, c.in-range3.ensures)
+returns c = rw (c.in_range.ensures, c.in_range-2.ensures, c.in_range-3.ensures)
 
-pub is-sought-spec : {M : Type 1} → statement M
-is-sought-spec = tie.close (tie.spec (λ c κs. search rules) (λ c κs. search rules) (λ c κs. search rules) returns)
+pub is_sought_spec : {M : Type 1} → statement M
+is_sought_spec = tie.close (tie.spec (λ c κs. search rules) (λ c κs. search rules) (λ c κs. search rules) returns)

@@ -31,14 +31,14 @@ ended run out₀ at out j g h =
     let e : j ≡ length run = omega (arith, g.low) in
     rw (e, drop-length) at g.left
 
-abbrev invariant-loop : tie.invariant-loop
+abbrev invariant-loop : tie.invariant-loop-j
 invariant-loop run out₀ at j₀ out j = Going run out₀ at out j
 
-abbrev decreases-loop : tie.decreases-loop
+abbrev decreases-loop : tie.decreases-loop-j
 decreases-loop run out₀ at j₀ out j = length run - j
 
-pub put-run-spec : {M : Type 1} → statement M
-put-run-spec =
+pub put_run_spec : {M : Type 1} → statement M
+put_run_spec =
     tie.close
     (tie.spec
     invariant-loop
@@ -51,6 +51,6 @@ put-run-spec =
     (λ c. search rules)
     (λ c. search rules)
     (λ c. search rules)
-    (λ c. again _ _ _ _ _ c.before.before.loop.invariant c.before.loop-test.true)
-    (λ c. c.before.loop.invariant.same)
-    (λ c. ended _ _ _ _ _ c.before.loop.invariant c.loop-test.false))
+    (λ c. again _ _ _ _ _ c.loop-j.invariant c.loop-j-test.true)
+    (λ c. c.loop-j.invariant.same)
+    (λ c. ended _ _ _ _ _ c.loop-j.invariant c.loop-j-test.false))

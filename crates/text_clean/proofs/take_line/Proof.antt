@@ -10,44 +10,40 @@ use Rattle.text_clean.proofs.take_line.Statement.{statement}
 use Rattle.text_clean.proofs.take_line.Tie as tie
 
 -- a line end stands there
-module _ (m : tie.Then2) where
-  abbrev s : tie.Start
-  s = m.before.before.before.before.before
-
+module _ (m : tie.Then-width-gt0) where
   -- what is asked, by the width that was found
-  asked : LineAsks m.before.line-end.result s.args.bytes.now s.args.at s.args.out.now s.args.k s.args.tally
+  asked : LineAsks m.line_end-width.result m.args.bytes.now m.args.at m.args.out.now m.args.k m.args.tally
   asked =
-      subst (λ w. LineAsks w s.args.bytes.now s.args.at s.args.out.now s.args.k s.args.tally) (sym m.before.line-end.ensures) s.pre
+      subst (λ w. LineAsks w m.args.bytes.now m.args.at m.args.out.now m.args.k m.args.tally) (sym m.line_end-width.ensures) m.requires
 
-  room : s.args.k < length s.args.out.now
-  room = asked.room m.if2.taken
+  room : m.args.k < length m.args.out.now
+  room = asked.room m.if-width-gt0.true
 
   -- the places after it are numbers of 64 bits
-  end_fits : s.args.at + m.before.line-end.result < 18446744073709551616
-  end_fits = omega (arith, asked.low m.if2.taken, s.good)
+  end_fits : m.args.at + m.line_end-width.result < 18446744073709551616
+  end_fits = omega (arith, asked.low m.if-width-gt0.true, m.well_formed)
 
-  place-fits : s.args.k + 1 < 18446744073709551616
-  place-fits = omega (arith, room, s.good)
+  place-fits : m.args.k + 1 < 18446744073709551616
+  place-fits = omega (arith, room, m.well_formed)
 
-returns : tie.Need-returns
+returns : tie.Need-returns-then-width-gt0
 returns c =
-    let m = c.before.before in
-    let a = (s m).args in
-    line_taken a.text a.lines a.bytes.now a.at a.gap a.out.now a.k a.tally _ m.before.line-end.ensures m.if2.true
-    _ c.before.ended.ensures _ c.tally-read.ensures
+    let a = c.args in
+    line_taken a.text a.lines a.bytes.now a.at a.gap a.out.now a.k a.tally _ c.line_end-width.ensures c.if-width-gt0.true
+    _ c.ended-next.ensures _ c.tally_read.ensures
 
-returns-2 : tie.Need-returns-2
+returns-2 : tie.Need-returns-else-width-gt0
 returns-2 c =
-    let a = c.before.before.before.before.before.args in
-    line_none a.text a.lines a.bytes.now a.at a.gap a.out.now a.k a.tally _ c.before.line-end.ensures c.if2.false
+    let a = c.args in
+    line_none a.text a.lines a.bytes.now a.at a.gap a.out.now a.k a.tally _ c.line_end-width.ensures c.if-width-gt0.false
 
-returns-3 : tie.Need-returns-3
+returns-3 : tie.Need-returns-else-at-bytes
 returns-3 c =
-    let a = c.before.before.before.args in
-    line_past a.text a.lines a.bytes.now a.at a.gap a.out.now a.k a.tally c.if1.false
+    let a = c.args in
+    line_past a.text a.lines a.bytes.now a.at a.gap a.out.now a.k a.tally c.if-at-bytes.false
 
-pub take-line-spec : {M : Type 1} → statement M
-take-line-spec =
+pub take_line_spec : {M : Type 1} → statement M
+take_line_spec =
     tie.close
     (tie.spec
     (λ c κs. search rules)
@@ -55,7 +51,7 @@ take-line-spec =
     (λ c κs. search rules)
     (λ c. record { fits = end_fits c.before })
     (λ c. record { fits = place-fits c.before })
-    (λ c κs. (asked c.before).fits c.before.if2.true)
+    (λ c κs. (asked c.before).fits c.if-width-gt0.true)
     (λ c. search rules)
     returns
     returns-2

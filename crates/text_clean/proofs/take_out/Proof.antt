@@ -12,39 +12,29 @@ asked s = record { chars = s.requires.1.0; room = s.requires.1.1.0; fits = s.req
 
 take-requires : tie.Need-take-requires
 take-requires c κs =
-    let m = c.before.before in
-    let s = m.before.before.before.before in
-    (s.requires.0, one_asks _ _ _ _ _ _ _ _ _ m.chars.given.1 (asked s))
+    (c.requires.0, one_asks _ _ _ _ _ _ _ _ _ c.in-One.is (asked c.before.before.before.before))
 
-take-requires-2 : tie.Need-take-requires-2
+take-requires-2 : tie.Need-take-first-requires
 take-requires-2 c κs =
-    let m = c.before.before in
-    let s = m.before.before.before.before in
-    (s.requires.0, first_asks _ _ _ _ _ _ _ _ _ _ m.chars2.given.1 (asked s))
+    (c.requires.0, first_asks _ _ _ _ _ _ _ _ _ _ c.in-Two.is (asked c.before.before.before.before))
 
-take-requires-3 : tie.Need-take-requires-3
+take-requires-3 : tie.Need-take-requires-in-Two
 take-requires-3 c κs =
-    let f = c.before.before.before.before.before in
-    let m = f.before.before.before in
-    let s = m.before.before.before.before in
-    (s.requires.0, second_asks _ _ _ _ _ _ _ _ _ _ m.chars2.given.1 (asked s) f.take2.result _ f.take2.ensures)
+    (c.requires.0, second_asks _ _ _ _ _ _ _ _ _ _ c.in-Two.is (asked c.before.before.before.before.before.before.before.before.before.before) c.take-first.result _ c.take-first.ensures)
 
-returns : tie.Need-returns
-returns c = none_takes _ _ _ _ _ _ _ _ c.enum_told.given.1
+returns : tie.Need-returns-in-Nothing
+returns c = none_takes _ _ _ _ _ _ _ _ c.in-Nothing.is
 
-returns-2 : tie.Need-returns-2
+returns-2 : tie.Need-returns-in-One
 returns-2 c =
-    let f = c.before.before in
-    one_takes _ _ _ _ _ _ _ _ _ f.before.before.before.chars.given.1 _ _ f.take.ensures
+    one_takes _ _ _ _ _ _ _ _ _ c.in-One.is _ _ c.take.ensures
 
-returns-3 : tie.Need-returns-3
+returns-3 : tie.Need-returns-in-Two
 returns-3 c =
-    let g = c.before.before in
-    let f = g.before.before.before.before.before.before in
-    two_takes _ _ _ _ _ _ _ _ _ _ f.before.before.before.chars2.given.1 f.take2.result _ f.take2.ensures _ _ g.take3.ensures
+    two_takes _ _ _ _ _ _ _ _ _ _ c.in-Two.is c.take-first.result _ c.take-first.ensures _ _ c.take-in-Two.ensures
 
-pub take-out-spec : {M : Type 1} → statement M
-take-out-spec =
+pub take_out_spec : {M : Type 1} → statement M
+take_out_spec =
     tie.close
     (tie.spec
     (λ c. search rules)

@@ -8,36 +8,34 @@ use Rattle.text_input_fill.proofs.Filling.{Zeroing, zero_begin, zero_again, zero
 use Rattle.text_input_fill.proofs.clear_to_char_boundary.Statement.{statement}
 use Rattle.text_input_fill.proofs.clear_to_char_boundary.Tie as tie
 
-abbrev invariant-loop : tie.invariant-loop
+abbrev invariant-loop : tie.invariant-loop-i
 invariant-loop buf₀ at i₀ buf i = Zeroing buf₀ at buf i
 
-abbrev decreases-loop : tie.decreases-loop
+abbrev decreases-loop : tie.decreases-loop-i
 decreases-loop buf₀ at i₀ buf i = length buf - i
 
-loop-again : tie.Need-loop-preserved invariant-loop decreases-loop
+loop-again : tie.Need-loop-i-preserved invariant-loop decreases-loop
 loop-again c =
-    let l = c.before.before.before in
-    zero_again _ _ _ _ l.before.loop.invariant l.loop-test.true (sym c.before.is-continuation.ensures ∙ c.if1.true)
+    zero_again _ _ _ _ c.loop-i.invariant c.loop-i-test.true (sym c.is_continuation.ensures ∙ c.if-is_continuation.true)
 
-returns : tie.Need-returns invariant-loop decreases-loop
+returns : tie.Need-returns-else-is_continuation invariant-loop decreases-loop
 returns c =
-    let l = c.before.before.before in
-    zero_met _ _ _ _ l.before.loop.invariant l.loop-test.true (sym c.before.is-continuation.ensures ∙ c.if1.false)
+    zero_met _ _ _ _ c.loop-i.invariant c.loop-i-test.true (sym c.is_continuation.ensures ∙ c.if-is_continuation.false)
 
-pub clear-to-char-boundary-spec : {M : Type 1} → statement M
-clear-to-char-boundary-spec =
+pub clear_to_char_boundary_spec : {M : Type 1} → statement M
+clear_to_char_boundary_spec =
     tie.close
     (tie.spec
     invariant-loop
     decreases-loop
-    (λ c. zero_begin _ _ c.before.requires)
+    (λ c. zero_begin _ _ c.requires)
     (λ c. search rules)
     (λ c κs. search rules)
     (λ c. search rules)
     (λ c. search rules)
     (λ c. simp length-set (omega arith))
     loop-again
-    (λ c. c.before.before.before.before.loop.invariant.same)
+    (λ c. c.loop-i.invariant.same)
     returns
-    (λ c. c.before.loop.invariant.same)
-    (λ c. zero_ended _ _ _ _ c.before.loop.invariant c.loop-test.false))
+    (λ c. c.loop-i.invariant.same)
+    (λ c. zero_ended _ _ _ _ c.loop-i.invariant c.loop-i-test.false))

@@ -10,26 +10,22 @@ use Rattle.text_input_fill.proofs.Filling.{fits, filled_is}
 use Rattle.text_input_fill.proofs.fill.Statement.{statement}
 use Rattle.text_input_fill.proofs.fill.Tie as tie
 
-clear-requires : tie.Need-clear-to-char-boundary-requires
+clear-requires : tie.Need-clear_to_char_boundary-requires
 clear-requires c κs =
-    let e = c.before.before.before in
-    let a = e.before.before.before.before.before.before.before.args in
-    omega (arith, e.encode-queue.ensures.1.0, e.encode-queue.auto.1.0, fits (length a.buf.now) a.queue.now)
+    let a = c.args in
+    omega (arith, c.encode_queue-encoded.ensures.1.0, c.encode_queue-encoded.auto.buf, fits (length a.buf.now) a.queue.now)
 
-returns : tie.Need-returns
+returns : tie.Need-returns-then-buf-lt-NORMALIZATION_BUFFER_SIZE
 unfolding fill_of
-returns c = simp (lt-ltb (length c.before.before.before.args.buf.now) 136 (omega (arith, c.if1.true)))
+returns c = simp (lt-ltb (length c.args.buf.now) 136 (omega (arith, c.if-buf-lt-NORMALIZATION_BUFFER_SIZE.true)))
 
-returns-2 : tie.Need-returns-2
+returns-2 : tie.Need-returns-then-are_chars
 returns-2 c =
-    let z = c.before.before in
-    let e = z.before.before.before.before in
-    let t = e.before.before in
-    let a = t.before.before.before.before.before.args in
-    filled_is a.queue.now a.buf.now _ _ _ _ t.before.before.if1.false (sym t.before.are_chars_lem.ensures ∙ t.if2.true)
-    e.encode-queue.ensures z.clear-to-char-boundary.ensures
+    let a = c.args in
+    filled_is a.queue.now a.buf.now _ _ _ _ c.if-buf-lt-NORMALIZATION_BUFFER_SIZE.false (sym c.are_chars.ensures ∙ c.if-are_chars.true)
+    c.encode_queue-encoded.ensures c.clear_to_char_boundary.ensures
 
-returns-3 : tie.Need-returns-3
+returns-3 : tie.Need-returns-else-are_chars
 unfolding fill_of
 returns-3 c = search tests
 

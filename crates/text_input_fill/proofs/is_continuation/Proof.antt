@@ -8,5 +8,5 @@ returns : tie.Need-returns
 unfolding continuation
 returns c = refl
 
-pub is-continuation-spec : {M : Type 1} → statement M
-is-continuation-spec = tie.close (tie.spec returns)
+pub is_continuation_spec : {M : Type 1} → statement M
+is_continuation_spec = tie.close (tie.spec returns)

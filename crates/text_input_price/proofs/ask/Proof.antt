@@ -15,44 +15,38 @@ use Rattle.text_input_price.proofs.Calls.{ask_refused, told, ask_is}
 use Rattle.text_input_price.proofs.ask.Statement.{statement}
 use Rattle.text_input_price.proofs.ask.Tie as tie
 
-abbrev Entry : tie.After-chunk-refusal → tie.Start
-Entry c = c.before.before.before.before.before
-
 -- the refusal's number is the definition's
-refusal_is : (c : tie.After-chunk-refusal) →
-    let a = (Entry c).args in
-    c.chunk-refusal.result ≡ ask_refusal a.r.count a.page.now a.chunk.now
-refusal_is c = rw (← c.before.are_chars_lem.ensures, ← c.before.before.is_accepted.ensures) c.chunk-refusal.ensures
+refusal_is : (c : tie.After-chunk_refusal-no) →
+    let a = c.args in
+    c.chunk_refusal-no.result ≡ ask_refusal a.r.count a.page.now a.chunk.now
+refusal_is c = rw (← c.are_chars.ensures, ← c.is_accepted.ensures) c.chunk_refusal-no.ensures
 
 -- the page is right, and the count stays within its limit
-passed : (c : tie.After-skips) →
-    let a = (Entry c.before.before).args in
+passed : (c : tie.After-skips-from) →
+    let a = c.args in
     ChunkPassed a.r.count (accepted a.page.now) (are_chars a.chunk.now) (length a.chunk.now)
 passed c =
-    let a = (Entry c.before.before).args in
-    told a.r a.page.now a.options a.chunk.now _ (refusal_is c.before.before) c.before.if1.true
+    let a = c.args in
+    told a.r a.page.now a.options a.chunk.now _ (refusal_is c.before.before) c.if-no-eq0.true
 
 -- the chunk has what is skipped
-from_le : (c : tie.After-open) → c.before.skips.result ≤ length (Entry c.before.before.before).args.chunk.now
+from_le : (c : tie.After-open-opened) → c.skips-from.result ≤ length c.args.chunk.now
 from_le c =
-    let a = (Entry c.before.before.before).args in
-    rw c.before.skips.ensures (skip_le a.r a.chunk.now)
+    let a = c.args in
+    rw c.skips-from.ensures (skip_le a.r a.chunk.now)
 
-run-places-requires : tie.Need-run-places-requires
+run-places-requires : tie.Need-run_places-requires
 run-places-requires c κs =
-    let s = c.before.before in
-    let h = passed s in
-    (h.right_page, rw rest_is (omega (arith, h.counts, length-drop s.skips.result (Entry s.before.before).args.chunk.now)))
+    let h = passed c.before.before in
+    (h.right_page, rw rest_is (omega (arith, h.counts, length-drop c.skips-from.result c.args.chunk.now)))
 
-returns : tie.Need-returns
+returns : tie.Need-returns-then-no-eq0
 returns c =
-    let o = c.before.before in
-    let s = o.before in
-    ask_is _ _ _ _ _ (refusal_is s.before.before) s.before.if1.true _ s.skips.ensures _ o.«open».ensures _
-    (rw rest_is at c.run-places.ensures)
+    ask_is _ _ _ _ _ (refusal_is c.before.before.before.before.before) c.if-no-eq0.true _ c.skips-from.ensures _ c.open-opened.ensures _
+    (rw rest_is at c.run_places.ensures)
 
-pub ask-spec : {M : Type 1} → statement M
-ask-spec =
+pub ask_spec : {M : Type 1} → statement M
+ask_spec =
     tie.close
     (tie.spec
     (λ c κs. search rules)
@@ -67,4 +61,4 @@ ask-spec =
     (λ c. search rules)
     run-places-requires
     returns
-    (λ c. ask_refused _ _ _ _ _ (refusal_is c.before) c.if1.false))
+    (λ c. ask_refused _ _ _ _ _ (refusal_is c.before) c.if-no-eq0.false))

@@ -17,62 +17,50 @@ use Rattle.text_input_price.proofs.commit.Statement.{statement}
 use Rattle.text_input_price.proofs.commit.Tie as tie
 
 -- asking was refused
-asked : (p : tie.After-price) →
-    let a = p.before.before.before.before.before.before.args in
-    ask_of a.r a.page.now a.options a.chunk.now ≡ p.price.given.0.0 ∷ []
-asked p = sym p.before.before.ask.ensures ∙ ap price_numbers p.price.given.1
+asked : (p : tie.In-Refused) →
+    let a = p.args in
+    ask_of a.r a.page.now a.options a.chunk.now ≡ p.in-Refused.no ∷ []
+asked p = sym p.ask-price.ensures ∙ ap price_numbers p.in-Refused.is
 
-returns-2 : tie.Need-returns-2
-returns-2 c = sym (commit_refused _ _ _ _ _ _ (asked c.before))
+returns-2 : tie.Need-returns-in-Refused
+returns-2 c = sym (commit_refused _ _ _ _ _ _ (asked c))
 
 -- asking answered a number of places
-abbrev Entry : tie.After-price2 → tie.Start
-Entry p = p.before.before.before.before.before.before
+needed : (p : tie.In-Places) →
+    let a = p.args in
+    ask_of a.r a.page.now a.options a.chunk.now ≡ 0 ∷ p.in-Places.needed ∷ []
+needed p = sym p.ask-price.ensures ∙ ap price_numbers p.in-Places.is
 
-needed : (p : tie.After-price2) →
-    let a = (Entry p).args in
-    ask_of a.r a.page.now a.options a.chunk.now ≡ 0 ∷ p.price2.given.0.0 ∷ []
-needed p = sym p.before.before.ask.ensures ∙ ap price_numbers p.price2.given.1
-
-returns : tie.Need-returns
+returns : tie.Need-returns-then-queue-needed
 returns c =
-    let p = c.before.before in
-    sym (commit_fewer _ _ _ _ (Entry p).args.queue.now _ (needed p) (omega (arith, c.if1.true)))
+    sym (commit_fewer _ _ _ _ c.args.queue.now _ (needed c.before) (omega (arith, c.if-queue-needed.true)))
 
 -- the page is right, and the count stays within its limit
-passed : (c : tie.After-skips) →
-    let a = (Entry c.before.before.before).args in
+passed : (c : tie.After-skips-from) →
+    let a = c.args in
     ChunkPassed a.r.count (accepted a.page.now) (are_chars a.chunk.now) (length a.chunk.now)
 passed c =
-    let p = c.before.before.before in
-    let a = (Entry p).args in
-    let z = (priced a.r a.page.now a.options a.chunk.now _ (needed p)).0 in
+    let a = c.args in
+    let z = (priced a.r a.page.now a.options a.chunk.now _ (needed c.before.before)).0 in
     told a.r a.page.now a.options a.chunk.now 0 (sym z) refl
 
 -- the chunk has what is skipped
-from_le : (c : tie.After-open) → c.before.skips.result ≤ length (Entry c.before.before.before.before).args.chunk.now
+from_le : (c : tie.After-open-opened) → c.skips-from.result ≤ length c.args.chunk.now
 from_le c =
-    let a = (Entry c.before.before.before.before).args in
-    rw c.before.skips.ensures (skip_le a.r a.chunk.now)
+    let a = c.args in
+    rw c.skips-from.ensures (skip_le a.r a.chunk.now)
 
-run-requires : tie.Need-run-requires
+run-requires : tie.Need-run-ran-requires
 run-requires c κs =
-    let o = c.before.before in
-    let s = o.before in
-    let p = s.before.before.before in
-    ((passed s).right_page, rw rest_is (enough _ _ _ _ (Entry p).args.queue.now _ (needed p) (omega (arith, s.before.if1.false)) _ s.skips.ensures _ o.«open».ensures))
+    ((passed c.before.before.before).right_page, rw rest_is (enough _ _ _ _ c.args.queue.now _ (needed c.before.before.before.before.before) (omega (arith, c.if-queue-needed.false)) _ c.skips-from.ensures _ c.open-opened.ensures))
 
-returns-3 : tie.Need-returns-3
+returns-3 : tie.Need-returns-else-queue-needed
 returns-3 c =
-    let u = c.before.before.before in
-    let o = u.before.before.before in
-    let s = o.before in
-    let p = s.before.before.before in
-    committed_is _ _ _ _ (Entry p).args.queue.now _ (needed p) (omega (arith, s.before.if1.false)) _ s.skips.ensures _ o.«open».ensures u.run.result _
-    (rw rest_is at u.run.ensures)
+    committed_is _ _ _ _ c.args.queue.now _ (needed c.before.before.before.before.before.before.before.before.before) (omega (arith, c.if-queue-needed.false)) _ c.skips-from.ensures _ c.open-opened.ensures c.run-ran.result _
+    (rw rest_is at c.run-ran.ensures)
 
-pub commit-spec : {M : Type 1} → statement M
-commit-spec =
+pub commit_spec : {M : Type 1} → statement M
+commit_spec =
     tie.close
     (tie.spec
     (λ c κs. search rules)

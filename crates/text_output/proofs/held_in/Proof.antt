@@ -3,13 +3,13 @@ use borrow.Author.Rules.{rules}
 use Rattle.text_output.proofs.held_in.Statement.{statement}
 use Rattle.text_output.proofs.held_in.Tie as tie
 
-pub held-in-spec : {M : Type 1} → statement M
-held-in-spec =
+pub held_in_spec : {M : Type 1} → statement M
+held_in_spec =
     tie.close
     (tie.spec
     (λ c. search rules)
     (λ c. search rules)
     (λ c. search rules)
-    (λ c. simp c.enum_told.given.1)
-    (λ c. simp c.enum-told2.given.1)
-    (λ c. simp c.enum-told3.given.1))
+    (λ c. simp c.in-Ground.is)
+    (λ c. simp c.in-Esc.is)
+    (λ c. simp c.in-Csi.is))

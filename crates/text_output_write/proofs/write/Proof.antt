@@ -11,67 +11,59 @@ use Rattle.text_output_write.proofs.write.Statement.{statement}
 use Rattle.text_output_write.proofs.write.Tie as tie
 
 -- what refuses before the steps is known from here on
-abbrev entry : tie.After-write-refusal → tie.Start
-entry r = r.before.before.before.before.before.before
+refusal : (r : tie.After-write_refusal-refusal) →
+    let a = r.args in
+    r.write_refusal-refusal.result ≡ write_bytes_refusal a.w a.page.now a.bytes.now (length a.out.now)
+refusal r = rw (r.bytes_refusal-values.ensures, r.valid_prefix-prefix.ensures) at r.write_refusal-refusal.ensures
 
-refusal : (r : tie.After-write-refusal) →
-    let a = (entry r).args in
-    r.write-refusal.result ≡ write_bytes_refusal a.w a.page.now a.bytes.now (length a.out.now)
-refusal r = rw (r.before.bytes-refusal.ensures, r.before.before.valid-prefix.ensures) at r.write-refusal.ensures
+none : (e : tie.Else-refusal-ne0) → e.write_refusal-refusal.result ≡ 0
+none e = omega (arith, e.if-refusal-ne0.false)
 
-none : (e : tie.Else1) → e.before.write-refusal.result ≡ 0
-none e = omega (arith, e.if1.false)
-
-through : (e : tie.Else1) →
-    let a = (entry e.before).args in
+through : (e : tie.Else-refusal-ne0) →
+    let a = e.args in
     Through a.w a.page.now (length (chars_of a.bytes.now)) (length a.out.now)
 through e = let_through _ _ _ _ _ _ (refusal e.before) (none e)
 
 -- how many bytes the prefix has
-prefix : (r : tie.After-write-refusal) → r.before.before.valid-prefix.result.bytes ≡ length (encode_all (chars_of (entry r).args.bytes.now))
-prefix r = ap (λ (q : Prefix). q.bytes) r.before.before.valid-prefix.ensures
+prefix : (r : tie.After-write_refusal-refusal) → r.valid_prefix-prefix.result.bytes ≡ length (encode_all (chars_of r.args.bytes.now))
+prefix r = ap (λ (q : Prefix). q.bytes) r.valid_prefix-prefix.ensures
 
-returns : tie.Need-returns
+returns : tie.Need-returns-then-refusal-ne0
 returns c =
-    let r = c.before.before.before in
-    let a = (entry r).args in
+    let a = c.args in
     let w = a.w in
     let bytes = a.bytes.now in
     let out = a.out.now in
     let t = c.taking.ensures in
-    taken c.taking.result c.before.refused-write.result _ out bytes t.0 t.1.0 t.1.1 (prefix r)
-    ∙ ap (taking bytes) (refused_anywhere c.before.refused-write.result w r.write-refusal.result out c.before.refused-write.ensures)
-    ∙ bytes_refused w a.page.now bytes out _ (refusal r) (omega (arith, c.before.before.if1.true))
+    taken c.taking.result c.refused_write.result _ out bytes t.0 t.1.0 t.1.1 (prefix c.before.before.before)
+    ∙ ap (taking bytes) (refused_anywhere c.refused_write.result w c.write_refusal-refusal.result out c.refused_write.ensures)
+    ∙ bytes_refused w a.page.now bytes out _ (refusal c.before.before.before) (omega (arith, c.if-refusal-ne0.true))
 
-run-bytes-requires : tie.Need-run-bytes-requires
+run-bytes-requires : tie.Need-run_bytes-pushed-requires
 run-bytes-requires c κs =
-    let e = c.before.before.before.before in
-    let a = (entry e.before).args in
-    place_asks a.w _ c.before.before.place_of.ensures a.page.now (chars_of a.bytes.now) (length a.out.now) (through e)
+    let a = c.args in
+    place_asks a.w _ c.place_of.ensures a.page.now (chars_of a.bytes.now) (length a.out.now) (through c.before.before.before.before)
 
-end-write-requires : tie.Need-end-write-requires
-end-write-requires c κs = (through c.before.before.before.before.before.before.before.before.before).page
+end-write-requires : tie.Need-end_write-written-requires
+end-write-requires c κs = (through c.before.before.before.before.before.before.before.before).page
 
-returns-2 : tie.Need-returns-2
+returns-2 : tie.Need-returns
 returns-2 c =
-    let r = c.before.before.before.before.before.before in
-    let b = r.before.before.before in
-    let e = b.before.before in
-    let a = (entry e.before).args in
+    let a = c.args in
     let w = a.w in
     let p = a.page.now in
     let bytes = a.bytes.now in
     let out = a.out.now in
-    let x = r.run_bytes.result in
-    let escape = r.run_bytes.new.1.1.1.1.0 in
-    let after = r.run_bytes.new.1.1.1.1.1.0 in
-    let t = c.taking2.ensures in
+    let x = c.run_bytes-pushed.result in
+    let escape = c.run_bytes-pushed.new.escape in
+    let after = c.run_bytes-pushed.new.out in
+    let t = c.taking-2.ensures in
     let is =
-    end_anywhere p w.mode w.expect_starter c.before.end-write.result x escape _ c.before.end-write.ensures after c.before.before.first_of.ensures
-    ∙ place_ends w _ b.place_of.ensures p (chars_of bytes) x escape after out r.run_bytes.ensures in
-    taken c.taking2.result c.before.end-write.result _ after bytes t.0 t.1.0 t.1.1 (prefix e.before)
+    end_anywhere p w.mode w.expect_starter c.end_write-written.result x escape _ c.end_write-written.ensures after c.first_of-first.ensures
+    ∙ place_ends w _ c.place_of.ensures p (chars_of bytes) x escape after out c.run_bytes-pushed.ensures in
+    taken c.taking-2.result c.end_write-written.result _ after bytes t.0 t.1.0 t.1.1 (prefix c.before.before.before.before.before.before.before.before.before.before.before)
     ∙ ap (taking bytes) is
-    ∙ bytes_written w p bytes out _ (refusal e.before) (none e)
+    ∙ bytes_written w p bytes out _ (refusal c.before.before.before.before.before.before.before.before.before.before.before) (none c.before.before.before.before.before.before.before.before.before.before)
 
 pub write_spec : {M : Type 1} → statement M
 write_spec =

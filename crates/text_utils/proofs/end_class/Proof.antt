@@ -7,13 +7,12 @@ use Rattle.text_utils.specs.Classes.{flag}
 use Rattle.text_utils.proofs.end_class.Statement.{statement}
 use Rattle.text_utils.proofs.end_class.Tie as tie
 
-returns : tie.Need-returns
+returns : tie.Need-returns-then-is_char
 returns c =
-    let d = c.before in
-    ap (λ (b : Bool). 0 ∷ flag b ∷ []) c.is-basic-text-end.ensures ∙ simp (sym d.before.is-char.ensures ∙ d.if1.true)
+    ap (λ (b : Bool). 0 ∷ flag b ∷ []) c.is_basic_text_end.ensures ∙ simp (sym c.is_char.ensures ∙ c.if-is_char.true)
 
-returns-2 : tie.Need-returns-2
-returns-2 c = simp (sym c.before.is-char.ensures ∙ c.if1.false)
+returns-2 : tie.Need-returns
+returns-2 c = simp (sym c.is_char.ensures ∙ c.if-is_char.false)
 
-pub end-class-spec : {M : Type 1} → statement M
-end-class-spec = tie.close (tie.spec (λ c κs. search rules) (λ c κs. search rules) returns returns-2)
+pub end_class_spec : {M : Type 1} → statement M
+end_class_spec = tie.close (tie.spec (λ c κs. search rules) (λ c κs. search rules) returns returns-2)

@@ -24,5 +24,5 @@ module _ (c : ℕ) where
   in-spans a b d e g h x y z top =
       ⊎_elim (λ t. ⊎_elim (λ u. between a b x u) (λ u. between d e y u) (or_cases _ _ t)) (λ t. end_clear g 0xffffffff z c (leb-true _ _ t) top) (or_cases _ _ h)
 
-pub is-apart-from-end-tables-spec : {M : Type 1} → statement M
-is-apart-from-end-tables-spec = tie.close (tie.spec (λ c h. in-spans _ _ _ _ _ _ h refl refl refl (search rules)))
+pub is_apart_from_end_tables_spec : {M : Type 1} → statement M
+is_apart_from_end_tables_spec = tie.close (tie.spec (λ c h. in-spans _ _ _ _ _ _ h refl refl refl (search rules)))

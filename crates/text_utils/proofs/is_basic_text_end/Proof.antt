@@ -15,14 +15,14 @@ use Rattle.text_utils.proofs.is_basic_text_end.Tie as tie
 low : (c : ℕ) → c < 0x600 → true ≡ basic_text_end c
 low c h = let e : eqb c 0x200d ≡ false = ne_eqb c 0x200d (λ q. omega arith) in sym (end_clear 0 0x5ff refl c (omega arith) (omega arith) ∙ rw e)
 
-returns-3 : tie.Need-returns-3
-returns-3 c = sym (c.before.is-apart-from-end-tables.ensures c.if3.true)
+returns-3 : tie.Need-returns-then-is_apart_from_end_tables
+returns-3 c = sym (c.is_apart_from_end_tables.ensures c.if-is_apart_from_end_tables.true)
 
-pub is-basic-text-end-spec : {M : Type 1} → statement M
-is-basic-text-end-spec =
+pub is_basic_text_end_spec : {M : Type 1} → statement M
+is_basic_text_end_spec =
     tie.close
     (tie.spec
-    (λ c. low _ c.if1.true)
+    (λ c. low _ c.if-c-lt1536.true)
     (λ c κs. search rules)
     (λ c. search rules)
     (λ c κs. search rules)

@@ -6,46 +6,41 @@ use mathlib.Core.List.{List}
 use Prim.Native.Nat.{ℕ}
 use native.Mathlib.Omega.{arith}
 use borrow.Author.Rules.{rules}
-use borrow.Author.Tests.{not-true, not-false}
 use Rattle.text_utils.specs.Classes.{starter, basic_text_start}
 use Rattle.text_utils.proofs.Classes.{start_low, start_clear}
 use Rattle.text_utils.proofs.is_basic_text_start.Statement.{statement}
 use Rattle.text_utils.proofs.is_basic_text_start.Tie as tie
 
 module _ (p : List ℕ) (c : ℕ) {r : Bool} (e : r ≡ starter p c) where
-  no_start : not r ≡ true → false ≡ basic_text_start p c
+  no_start : r ≡ false → false ≡ basic_text_start p c
   unfolding basic_text_start
-  no_start h = let s : starter p c ≡ false = sym e ∙ not-true r h in rw s refl
+  no_start h = let s : starter p c ≡ false = sym e ∙ h in rw s refl
 
-  is-a-starter : not r ≡ false → starter p c ≡ true
-  is-a-starter h = sym e ∙ not-false r h
+  is-a-starter : r ≡ true → starter p c ≡ true
+  is-a-starter h = sym e ∙ h
 
-returns : tie.Need-returns
-returns c = no_start _ _ c.before.is-starter.ensures c.if1.true
+returns : tie.Need-returns-then-not-is_starter
+returns c = no_start _ _ c.is_starter.ensures c.if-not-is_starter.true
 
-returns-2 : tie.Need-returns-2
+returns-2 : tie.Need-returns-then-c-lt768
 returns-2 c =
-    let s = c.before in
-    sym (start_low _ _ c.if2.true ∙ is-a-starter _ _ s.before.is-starter.ensures s.if1.false)
+    sym (start_low _ _ c.if-c-lt768.true ∙ is-a-starter _ _ c.is_starter.ensures c.if-not-is_starter.false)
 
-returns-3 : tie.Need-returns-3
+returns-3 : tie.Need-returns-then-c-lt12443
 returns-3 c =
-    let s = c.before.before.before in
-    c.is-start-by-lists.ensures _ (is-a-starter _ _ s.before.is-starter.ensures s.if1.false)
+    c.is_start_by_lists.ensures _ (is-a-starter _ _ c.is_starter.ensures c.if-not-is_starter.false)
 
-returns-4 : tie.Need-returns-4
+returns-4 : tie.Need-returns-then-c-lt42607
 returns-4 c =
-    let s = c.before.before.before in
     sym (start_clear 0x309b 0xa66e refl _ _ (omega arith) (omega arith) (λ e. omega arith) (λ e. omega arith) (λ e. omega arith)
-    ∙ is-a-starter _ _ s.before.is-starter.ensures s.if1.false)
+    ∙ is-a-starter _ _ c.is_starter.ensures c.if-not-is_starter.false)
 
-returns-5 : tie.Need-returns-5
+returns-5 : tie.Need-returns
 returns-5 c =
-    let s = c.before.before.before.before in
-    c.is-start-by-lists2.ensures _ (is-a-starter _ _ s.before.is-starter.ensures s.if1.false)
+    c.is_start_by_lists-2.ensures _ (is-a-starter _ _ c.is_starter.ensures c.if-not-is_starter.false)
 
-pub is-basic-text-start-spec : {M : Type 1} → statement M
-is-basic-text-start-spec =
+pub is_basic_text_start_spec : {M : Type 1} → statement M
+is_basic_text_start_spec =
     tie.close
     (tie.spec
     (λ c κs. search rules)

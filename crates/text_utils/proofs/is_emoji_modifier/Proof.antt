@@ -8,12 +8,12 @@ use Rattle.text_utils.proofs.Rising.{emoji_modifier_rises}
 use Rattle.text_utils.proofs.is_emoji_modifier.Statement.{statement}
 use Rattle.text_utils.proofs.is_emoji_modifier.Tie as tie
 
-in-packed-requires : tie.Need-in-packed-requires
-in-packed-requires c κs = rises_packed emoji_modifier emoji_modifier_rises c.before.emoji-modifier.ensures
+in-packed-requires : tie.Need-in_packed-requires
+in-packed-requires c κs = rises_packed emoji_modifier emoji_modifier_rises c.emoji_modifier.ensures
 
 returns : tie.Need-returns
-returns c = c.in-packed.ensures ∙ member_packed emoji_modifier emoji_modifier_rises c.before.before.emoji-modifier.ensures _
+returns c = c.in_packed.ensures ∙ member_packed emoji_modifier emoji_modifier_rises c.emoji_modifier.ensures _
 
-pub is-emoji-modifier-spec : {M : Type 1} → statement M
-is-emoji-modifier-spec =
-    tie.close (tie.spec (λ c κs. search rules) (λ c. sym (ap length c.before.emoji-modifier.ensures)) in-packed-requires returns)
+pub is_emoji_modifier_spec : {M : Type 1} → statement M
+is_emoji_modifier_spec =
+    tie.close (tie.spec (λ c κs. search rules) (λ c. sym (ap length c.emoji_modifier.ensures)) in-packed-requires returns)

@@ -8,5 +8,5 @@ returns : tie.Need-returns
 unfolding basic_text_end
 returns c = cc
 
-pub is-end-by-tables-spec : {M : Type 1} → statement M
-is-end-by-tables-spec = tie.close (tie.spec (λ c κs. search rules) (λ c κs. search rules) (λ c κs. search rules) returns)
+pub is_end_by_tables_spec : {M : Type 1} → statement M
+is_end_by_tables_spec = tie.close (tie.spec (λ c κs. search rules) (λ c κs. search rules) (λ c κs. search rules) returns)

@@ -8,12 +8,12 @@ use Rattle.text_utils.proofs.Rising.{spacing_mark_rises}
 use Rattle.text_utils.proofs.is_general_category_spacing_mark.Statement.{statement}
 use Rattle.text_utils.proofs.is_general_category_spacing_mark.Tie as tie
 
-in-packed-requires : tie.Need-in-packed-requires
-in-packed-requires c κs = rises_packed spacing_mark spacing_mark_rises c.before.spacing-mark.ensures
+in-packed-requires : tie.Need-in_packed-requires
+in-packed-requires c κs = rises_packed spacing_mark spacing_mark_rises c.spacing_mark.ensures
 
 returns : tie.Need-returns
-returns c = c.in-packed.ensures ∙ member_packed spacing_mark spacing_mark_rises c.before.before.spacing-mark.ensures _
+returns c = c.in_packed.ensures ∙ member_packed spacing_mark spacing_mark_rises c.spacing_mark.ensures _
 
-pub is-general-category-spacing-mark-spec : {M : Type 1} → statement M
-is-general-category-spacing-mark-spec =
-    tie.close (tie.spec (λ c κs. search rules) (λ c. sym (ap length c.before.spacing-mark.ensures)) in-packed-requires returns)
+pub is_general_category_spacing_mark_spec : {M : Type 1} → statement M
+is_general_category_spacing_mark_spec =
+    tie.close (tie.spec (λ c κs. search rules) (λ c. sym (ap length c.spacing_mark.ensures)) in-packed-requires returns)

@@ -8,5 +8,5 @@ returns : tie.Need-returns
 unfolding spacing_mark_plus
 returns c = cc
 
-pub is-grapheme-cluster-break-spacing-mark-plus-spec : {M : Type 1} → statement M
-is-grapheme-cluster-break-spacing-mark-plus-spec = tie.close (tie.spec (λ c κs. search rules) (λ c κs. search rules) returns)
+pub is_grapheme_cluster_break_spacing_mark_plus_spec : {M : Type 1} → statement M
+is_grapheme_cluster_break_spacing_mark_plus_spec = tie.close (tie.spec (λ c κs. search rules) (λ c κs. search rules) returns)

@@ -11,16 +11,16 @@ use Rattle.text_utils.proofs.Rising.{no_cgj, no_cgj_rises}
 use Rattle.text_utils.proofs.is_grapheme_extend_not_cgj.Statement.{statement}
 use Rattle.text_utils.proofs.is_grapheme_extend_not_cgj.Tie as tie
 
-in-packed-requires : tie.Need-in-packed-requires
-in-packed-requires c κs = rises_packed no_cgj no_cgj_rises c.before.grapheme-extend-not-cgj.ensures
+in-packed-requires : tie.Need-in_packed-requires
+in-packed-requires c κs = rises_packed no_cgj no_cgj_rises c.grapheme_extend_not_cgj.ensures
 
 returns : tie.Need-returns
 unfolding grapheme_extend_not_cgj
 returns c =
-    c.in-packed.ensures
-    ∙ member_packed no_cgj no_cgj_rises c.before.before.grapheme-extend-not-cgj.ensures _
+    c.in_packed.ensures
+    ∙ member_packed no_cgj no_cgj_rises c.grapheme_extend_not_cgj.ensures _
     ∙ member_minus 0x34f 0x34f grapheme_extend _ ∙ rw one_char refl
 
-pub is-grapheme-extend-not-cgj-spec : {M : Type 1} → statement M
-is-grapheme-extend-not-cgj-spec =
-    tie.close (tie.spec (λ c κs. search rules) (λ c. sym (ap length c.before.grapheme-extend-not-cgj.ensures)) in-packed-requires returns)
+pub is_grapheme_extend_not_cgj_spec : {M : Type 1} → statement M
+is_grapheme_extend_not_cgj_spec =
+    tie.close (tie.spec (λ c κs. search rules) (λ c. sym (ap length c.grapheme_extend_not_cgj.ensures)) in-packed-requires returns)

@@ -8,12 +8,12 @@ use Rattle.text_utils.proofs.Rising.{spacing_mark_exceptions_rises}
 use Rattle.text_utils.proofs.is_spacing_mark_exception.Statement.{statement}
 use Rattle.text_utils.proofs.is_spacing_mark_exception.Tie as tie
 
-in-packed-requires : tie.Need-in-packed-requires
-in-packed-requires c κs = rises_packed spacing_mark_exceptions spacing_mark_exceptions_rises c.before.spacing-mark-exception.ensures
+in-packed-requires : tie.Need-in_packed-requires
+in-packed-requires c κs = rises_packed spacing_mark_exceptions spacing_mark_exceptions_rises c.spacing_mark_exception.ensures
 
 returns : tie.Need-returns
-returns c = c.in-packed.ensures ∙ member_packed spacing_mark_exceptions spacing_mark_exceptions_rises c.before.before.spacing-mark-exception.ensures _
+returns c = c.in_packed.ensures ∙ member_packed spacing_mark_exceptions spacing_mark_exceptions_rises c.spacing_mark_exception.ensures _
 
-pub is-spacing-mark-exception-spec : {M : Type 1} → statement M
-is-spacing-mark-exception-spec =
-    tie.close (tie.spec (λ c κs. search rules) (λ c. sym (ap length c.before.spacing-mark-exception.ensures)) in-packed-requires returns)
+pub is_spacing_mark_exception_spec : {M : Type 1} → statement M
+is_spacing_mark_exception_spec =
+    tie.close (tie.spec (λ c κs. search rules) (λ c. sym (ap length c.spacing_mark_exception.ensures)) in-packed-requires returns)

@@ -8,5 +8,5 @@ returns : tie.Need-returns
 unfolding basic_text_start
 returns c p h = cc
 
-pub is-start-by-lists-spec : {M : Type 1} → statement M
-is-start-by-lists-spec = tie.close (tie.spec (λ c κs. search rules) (λ c κs. search rules) (λ c κs. search rules) returns)
+pub is_start_by_lists_spec : {M : Type 1} → statement M
+is_start_by_lists_spec = tie.close (tie.spec (λ c κs. search rules) (λ c κs. search rules) (λ c κs. search rules) returns)

@@ -4,16 +4,16 @@ use Rattle.utf16.specs.Reading.{char_of}
 use Rattle.utf16.proofs.char_at.Statement.{statement}
 use Rattle.utf16.proofs.char_at.Tie as tie
 
-returns : tie.Need-returns
+returns : tie.Need-returns-then-is_high
 unfolding char_of
-returns c = simp (c.before.if1.true, ← c.before.before.is-high.ensures, ← c.unit-or-zero.ensures.0)
+returns c = simp (c.if-is_high.true, ← c.is_high.ensures, ← c.unit_or_zero-after.ensures.0)
 
-returns-2 : tie.Need-returns-2
+returns-2 : tie.Need-returns
 unfolding char_of
-returns-2 c = simp (c.if1.false, ← c.before.is-high.ensures)
+returns-2 c = simp (c.if-is_high.false, ← c.is_high.ensures)
 
-pub char-at-spec : {M : Type 1} → statement M
-char-at-spec =
+pub char_at_spec : {M : Type 1} → statement M
+char_at_spec =
     tie.close
     (tie.spec
     (λ c κs. search rules)

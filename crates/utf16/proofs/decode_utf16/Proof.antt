@@ -65,43 +65,34 @@ module _ (o : ByteOrder) (bs out : List ℕ) where
           let l : unpaired_in us ≡ [] = (none_is (unpaired_in us) (lows us) p e).0 in
           rw (ne_eqb (length bs % 2) 1 even, l, ← chars, le-ltb (length out) (length bs / 2 - p) h) (refl, refl)
 
-returns : tie.Need-returns
-returns c = odd _ _ _ c.if1.true
+returns : tie.Need-returns-then-bytes-eq1
+returns c = odd _ _ _ c.if-bytes-eq1.true
 
-sub-n : tie.Need-overflow-sub-n
+sub-n : tie.Need-overflow_sub-n
 sub-n c =
-    let l = c.before.before.before in
-    let a = l.before.before.before.before.args in
-    few a.order a.bytes.now a.out.now l.before.if1.false _ (sym l.look-over.ensures ∙ c.before.found2.given.1)
+    let a = c.args in
+    few a.order a.bytes.now a.out.now c.if-bytes-eq1.false _ (sym c.look_over-found.ensures ∙ c.in-Paired.is)
 
-returns-2 : tie.Need-returns-2
+returns-2 : tie.Need-returns-then-out-n
 returns-2 c =
-    let d = c.before.before in
-    let l = d.before.before in
-    no_room _ _ _ l.before.if1.false _ (sym l.look-over.ensures ∙ d.found2.given.1) c.if2.true
+    no_room _ _ _ c.if-bytes-eq1.false _ (sym c.look_over-found.ensures ∙ c.in-Paired.is) c.if-out-n.true
 
 store-requires : tie.Need-store-requires
 store-requires c κs =
-    let d = c.before.before.before in
-    let l = d.before.before in
-    let a = l.before.before.before.before.args in
-    omega (arith, chars a.order a.bytes.now a.out.now l.before.if1.false _ (sym l.look-over.ensures ∙ d.found2.given.1), c.before.if2.false)
+    let a = c.args in
+    omega (arith, chars a.order a.bytes.now a.out.now c.if-bytes-eq1.false _ (sym c.look_over-found.ensures ∙ c.in-Paired.is), c.if-out-n.false)
 
-returns-3 : tie.Need-returns-3
+returns-3 : tie.Need-returns-in-Unpaired
 returns-3 c =
-    let l = c.before.before.before in
-    unpaired _ _ _ l.before.if1.false _ (sym l.look-over.ensures ∙ c.before.found.given.1)
+    unpaired _ _ _ c.if-bytes-eq1.false _ (sym c.look_over-found.ensures ∙ c.in-Unpaired.is)
 
-returns-4 : tie.Need-returns-4
+returns-4 : tie.Need-returns-else-out-n
 returns-4 c =
-    let w = c.before.before in
-    let d = w.before.before.before.before in
-    let l = d.before.before in
-    rw w.store.ensures
-    (decoded _ _ _ l.before.if1.false _ (sym l.look-over.ensures ∙ d.found2.given.1) w.before.before.if2.false)
+    rw c.store.ensures
+    (decoded _ _ _ c.if-bytes-eq1.false _ (sym c.look_over-found.ensures ∙ c.in-Paired.is) c.if-out-n.false)
 
-pub decode-utf16-spec : {M : Type 1} → statement M
-decode-utf16-spec =
+pub decode_utf16_spec : {M : Type 1} → statement M
+decode_utf16_spec =
     tie.close
     (tie.spec
     returns

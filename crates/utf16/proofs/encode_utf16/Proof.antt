@@ -31,20 +31,18 @@ module _ (o : ByteOrder) (cs out : List ℕ) where
   unfolding encode_answer encode_places
   no_chars s = rw s (refl, refl)
 
-returns : tie.Need-returns
+returns : tie.Need-returns-then-chars-out
 returns c =
-    let w = c.before.before in
-    let t = w.before.before in
-    rw (w.put-chars.ensures.0, w.put-chars.ensures.1)
-    (written _ _ _ (sym t.before.before.are_chars_lem.ensures ∙ t.before.if1.true) t.if2.true)
+    rw (c.put_chars.ensures.0, c.put_chars.ensures.1)
+    (written _ _ _ (sym c.are_chars.ensures ∙ c.if-are_chars.true) c.if-chars-out.true)
 
-returns-2 : tie.Need-returns-2
-returns-2 c = no_room _ _ _ (sym c.before.before.are_chars_lem.ensures ∙ c.before.if1.true) c.if2.false
+returns-2 : tie.Need-returns-then-are_chars
+returns-2 c = no_room _ _ _ (sym c.are_chars.ensures ∙ c.if-are_chars.true) c.if-chars-out.false
 
-returns-3 : tie.Need-returns-3
-returns-3 c = no_chars _ _ _ (sym c.before.are_chars_lem.ensures ∙ c.if1.false)
+returns-3 : tie.Need-returns
+returns-3 c = no_chars _ _ _ (sym c.are_chars.ensures ∙ c.if-are_chars.false)
 
-pub encode-utf16-spec : {M : Type 1} → statement M
-encode-utf16-spec =
+pub encode_utf16_spec : {M : Type 1} → statement M
+encode_utf16_spec =
     tie.close
     (tie.spec (λ c κs. search rules) (λ c κs. search rules) (λ c. search rules) returns returns-2 returns-3)

@@ -8,5 +8,5 @@ returns : tie.Need-returns
 unfolding is_high
 returns c = refl
 
-pub is-high-spec : {M : Type 1} → statement M
-is-high-spec = tie.close (tie.spec returns)
+pub is_high_spec : {M : Type 1} → statement M
+is_high_spec = tie.close (tie.spec returns)

@@ -8,5 +8,5 @@ returns : tie.Need-returns
 unfolding is_low
 returns c = refl
 
-pub is-low-spec : {M : Type 1} → statement M
-is-low-spec = tie.close (tie.spec returns)
+pub is_low_spec : {M : Type 1} → statement M
+is_low_spec = tie.close (tie.spec returns)

@@ -10,14 +10,14 @@ use Rattle.common.proofs.Tested.{Tested, begin, again, ended}
 use Rattle.utf16.proofs.is_plain_block.Statement.{statement}
 use Rattle.utf16.proofs.is_plain_block.Tie as tie
 
-abbrev invariant-loop : tie.invariant-loop
+abbrev invariant-loop : tie.invariant-loop-tested
 invariant-loop bytes at size good₀ tested₀ good tested = Tested (λ x. plain_byte (get_or bytes x 0) ≡ true) at size good tested
 
-abbrev decreases-loop : tie.decreases-loop
+abbrev decreases-loop : tie.decreases-loop-tested
 decreases-loop bytes at size good₀ tested₀ good tested = size - tested
 
-pub is-plain-block-spec : {M : Type 1} → statement M
-is-plain-block-spec =
+pub is_plain_block_spec : {M : Type 1} → statement M
+is_plain_block_spec =
     tie.close
     (tie.spec
     invariant-loop
@@ -27,5 +27,5 @@ is-plain-block-spec =
     (λ c. search rules)
     (λ c. search rules)
     (λ c. search rules)
-    (λ c. again _ _ _ _ _ c.before.before.loop.invariant c.before.loop-test.true _ (λ t. t))
-    (λ c. ended _ _ _ _ _ c.before.loop.invariant c.loop-test.false))
+    (λ c. again _ _ _ _ _ c.loop-tested.invariant c.loop-tested-test.true _ (λ t. t))
+    (λ c. ended _ _ _ _ _ c.loop-tested.invariant c.loop-tested-test.false))

@@ -8,14 +8,14 @@ use Rattle.common.proofs.Tested.{Tested, begin, again, ended}
 use Rattle.utf16.proofs.is_short_block.Statement.{statement}
 use Rattle.utf16.proofs.is_short_block.Tie as tie
 
-abbrev invariant-loop : tie.invariant-loop
+abbrev invariant-loop : tie.invariant-loop-tested
 invariant-loop chars at size good₀ tested₀ good tested = Tested (λ x. get_or chars x 0 < 0x10000) at size good tested
 
-abbrev decreases-loop : tie.decreases-loop
+abbrev decreases-loop : tie.decreases-loop-tested
 decreases-loop chars at size good₀ tested₀ good tested = size - tested
 
-pub is-short-block-spec : {M : Type 1} → statement M
-is-short-block-spec =
+pub is_short_block_spec : {M : Type 1} → statement M
+is_short_block_spec =
     tie.close
     (tie.spec
     invariant-loop
@@ -26,5 +26,5 @@ is-short-block-spec =
     (λ c. search rules)
     (λ c. search rules)
     (λ c. search rules)
-    (λ c. again _ _ _ _ _ c.before.before.loop.invariant c.before.loop-test.true _ (ltb-true _ _))
-    (λ c. ended _ _ _ _ _ c.before.loop.invariant c.loop-test.false))
+    (λ c. again _ _ _ _ _ c.loop-tested.invariant c.loop-tested-test.true _ (ltb-true _ _))
+    (λ c. ended _ _ _ _ _ c.loop-tested.invariant c.loop-tested-test.false))

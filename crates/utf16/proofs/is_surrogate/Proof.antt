@@ -7,5 +7,5 @@ use Rattle.utf16.proofs.is_surrogate.Tie as tie
 returns : tie.Need-returns
 returns c = sym (surrogate_range _)
 
-pub is-surrogate-spec : {M : Type 1} → statement M
-is-surrogate-spec = tie.close (tie.spec returns)
+pub is_surrogate_spec : {M : Type 1} → statement M
+is_surrogate_spec = tie.close (tie.spec returns)

@@ -102,85 +102,72 @@ stretch o bs pairs i t g p =
     rw e at
     (passed (units_in o bs) pairs i (t - i) g (omega (arith, e, p.inside, length_units o bs)) (λ x l k. p.each o x l (omega (arith, e))))
 
-abbrev invariant-loop2 : tie.invariant-loop2
+abbrev invariant-loop2 : tie.invariant-loop-i-2
 invariant-loop2 order bytes n pairs₀ i₀ stop pairs i = Looking (units_in order bytes) pairs i × (i₀ ≤ i)
 
-abbrev decreases-loop2 : tie.decreases-loop2
+abbrev decreases-loop2 : tie.decreases-loop-i-2
 decreases-loop2 order bytes n pairs₀ i₀ stop pairs i = stop - i
 
-abbrev invariant-loop : tie.invariant-loop
+abbrev invariant-loop : tie.invariant-loop-i
 invariant-loop order bytes n pairs₀ i₀ pairs i = Looking (units_in order bytes) pairs i
 
-abbrev decreases-loop : tie.decreases-loop
+abbrev decreases-loop : tie.decreases-loop-i
 decreases-loop order bytes n pairs₀ i₀ pairs i = n - i
 
-loop2-holds : tie.Need-loop2-init invariant-loop2 decreases-loop2 invariant-loop decreases-loop
+loop2-holds : tie.Need-loop-i-2-init invariant-loop2 decreases-loop2 invariant-loop decreases-loop
 loop2-holds c =
-    (stretch _ _ _ _ _ c.before.before.before.loop.invariant c.before.plain-end.ensures, omega arith)
+    (stretch _ _ _ _ _ c.loop-i.invariant c.plain_end-i.ensures, omega arith)
 
-loop-less : tie.Need-loop-smaller invariant-loop2 decreases-loop2 invariant-loop decreases-loop
+loop-less : tie.Need-loop-i-smaller invariant-loop2 decreases-loop2 invariant-loop decreases-loop
 loop-less c =
-    let x = c.before in
-    let a = x.before.before.before.before.before.before.args in
-    let end = x.before.before.plain-end in
+    let a = c.args in
+    let end = c.plain_end-i in
     by_lt end.result (length a.bytes.now / 2)
-    (λ h. omega (arith, x.before.steps-end.ensures.1 h, end.ensures.begun, c.loop2-test.false))
-    (λ h. omega (arith, x.loop2.invariant.1, x.before.before.before.loop-test.true))
+    (λ h. omega (arith, c.steps_end-stop.ensures.1 h, end.ensures.begun, c.loop-i-2-test.false))
+    (λ h. omega (arith, c.loop-i-2.invariant.1, c.loop-i-test.true))
 
-loop-again : tie.Need-loop-preserved invariant-loop2 decreases-loop2 invariant-loop decreases-loop
-loop-again c = c.before.loop2.invariant.0
+loop-again : tie.Need-loop-i-preserved invariant-loop2 decreases-loop2 invariant-loop decreases-loop
+loop-again c = c.loop-i-2.invariant.0
 
-unit-at-requires : tie.Need-unit-at-requires invariant-loop2 decreases-loop2 invariant-loop decreases-loop
-unit-at-requires c κs = omega (arith, c.loop2-test.true, c.before.before.steps-end.ensures.0)
+unit-at-requires : tie.Need-unit_at-u-requires invariant-loop2 decreases-loop2 invariant-loop decreases-loop
+unit-at-requires c κs = omega (arith, c.loop-i-2-test.true, c.steps_end-stop.ensures.0)
 
-returns : tie.Need-returns invariant-loop2 decreases-loop2 invariant-loop decreases-loop
+returns : tie.Need-returns-then-not-is_high-is_low invariant-loop2 decreases-loop2 invariant-loop decreases-loop
 returns c =
-    let after = c.before.before in
-    let high = after.before in
-    let unit = high.before.before.before in
-    let x = unit.before.before in
-    let a = x.before.before.before.before.before.before.args in
-    found _ _ _ x.loop2.invariant.0 (units_inside a.order a.bytes.now _ (omega (arith, unit.before.loop2-test.true, x.before.steps-end.ensures.0)))
-    (rw (← unit.unit_at.ensures.0, ← high.before.before.is-surrogate.ensures) high.before.if1.true)
-    (rw (← unit.unit_at.ensures.0, ← after.unit-or-zero.ensures.0, ← high.is-high.ensures, ← c.before.is-low.ensures) (not-true _ c.if2.true))
+    let a = c.args in
+    found _ _ _ c.loop-i-2.invariant.0 (units_inside a.order a.bytes.now _ (omega (arith, c.loop-i-2-test.true, c.steps_end-stop.ensures.0)))
+    (rw (← c.unit_at-u.ensures.0, ← c.is_surrogate.ensures) c.if-is_surrogate.true)
+    (rw (← c.unit_at-u.ensures.0, ← c.unit_or_zero.ensures.0, ← c.is_high.ensures, ← c.is_low.ensures) c.if-not-is_high-is_low.true)
 
-add-pairs : tie.Need-overflow-add-pairs invariant-loop2 decreases-loop2 invariant-loop decreases-loop
+add-pairs : tie.Need-overflow_add-pairs invariant-loop2 decreases-loop2 invariant-loop decreases-loop
 add-pairs c =
-    let l = c.before.before.before.before.before.before.before in
-    omega (arith, l.before.loop2.invariant.0.few, l.loop2-test.true, l.before.before.steps-end.ensures.0)
+    omega (arith, c.loop-i-2.invariant.0.few, c.loop-i-2-test.true, c.steps_end-stop.ensures.0)
 
-loop2-again : tie.Need-loop2-preserved invariant-loop2 decreases-loop2 invariant-loop decreases-loop
+loop2-again : tie.Need-loop-i-2-preserved-then-is_surrogate invariant-loop2 decreases-loop2 invariant-loop decreases-loop
 loop2-again c =
-    let after = c.before.before in
-    let high = after.before in
-    let unit = high.before.before.before in
-    let l = unit.before in
-    let x = l.before in
-    let a = x.before.before.before.before.before.before.args in (
-      pair _ _ _ x.loop2.invariant.0
-          (units_inside a.order a.bytes.now _ (omega (arith, l.loop2-test.true, x.before.steps-end.ensures.0)))
-          (rw (← unit.unit_at.ensures.0, ← after.unit-or-zero.ensures.0, ← high.is-high.ensures, ← c.before.is-low.ensures) (not-false _ c.if2.false)),
-      omega (arith, x.loop2.invariant.1),
+    let a = c.args in (
+      pair _ _ _ c.loop-i-2.invariant.0
+          (units_inside a.order a.bytes.now _ (omega (arith, c.loop-i-2-test.true, c.steps_end-stop.ensures.0)))
+          (rw (← c.unit_at-u.ensures.0, ← c.unit_or_zero.ensures.0, ← c.is_high.ensures, ← c.is_low.ensures) c.if-not-is_high-is_low.false),
+      omega (arith, c.loop-i-2.invariant.1),
     )
 
-loop2-again-2 : tie.Need-loop2-preserved-2 invariant-loop2 decreases-loop2 invariant-loop decreases-loop
+loop2-again-2 : tie.Need-loop-i-2-preserved invariant-loop2 decreases-loop2 invariant-loop decreases-loop
 loop2-again-2 c =
-    let l = c.before.before.before in
-    let x = l.before in
-    let a = x.before.before.before.before.before.before.args in (
-      plain _ _ _ x.loop2.invariant.0
-          (units_inside a.order a.bytes.now _ (omega (arith, l.loop2-test.true, x.before.steps-end.ensures.0)))
-          (rw c.before.before.unit_at.ensures.0 at (sym c.before.is-surrogate.ensures ∙ c.if1.false)),
-      omega (arith, x.loop2.invariant.1),
+    let a = c.args in (
+      plain _ _ _ c.loop-i-2.invariant.0
+          (units_inside a.order a.bytes.now _ (omega (arith, c.loop-i-2-test.true, c.steps_end-stop.ensures.0)))
+          (rw c.unit_at-u.ensures.0 at (sym c.is_surrogate.ensures ∙ c.if-is_surrogate.false)),
+      omega (arith, c.loop-i-2.invariant.1),
     )
 
-returns-2 : tie.Need-returns-2 invariant-loop2 decreases-loop2 invariant-loop decreases-loop
+returns-2 : tie.Need-returns invariant-loop2 decreases-loop2 invariant-loop decreases-loop
 returns-2 c =
-    let a = c.before.before.before.args in
-    ended _ _ _ c.before.loop.invariant (units_past a.order a.bytes.now _ c.loop-test.false)
+    let a = c.args in
+    ended _ _ _ c.loop-i.invariant (units_past a.order a.bytes.now _ c.loop-i-test.false)
 
-pub look-over-spec : {M : Type 1} → statement M
-look-over-spec =
+pub look_over_spec : {M : Type 1} → statement M
+look_over_spec =
     tie.close
     (tie.spec
     invariant-loop2
@@ -189,7 +176,7 @@ look-over-spec =
     decreases-loop
     (λ c. begin _)
     (λ c κs. search rules)
-    (λ c κs. c.plain-end.ensures.inside)
+    (λ c κs. c.plain_end-i.ensures.inside)
     loop2-holds
     loop-less
     loop-again

@@ -22,16 +22,15 @@ pair_written : (o : ByteOrder) (out mid last : List ℕ) (at c : ℕ) → 0x1000
     (at + 4 ≡ at + length (serialised o (units_of c))) × (last ≡ sets out at (serialised o (units_of c)))
 pair_written o out mid last at c h e f = rw (row_two c h) (refl, f ∙ rw e (simp towards_suc))
 
-returns : tie.Need-returns
-returns c = simp (row_one _ c.before.before.before.before.if1.true) (omega arith, c.before.before.put-unit.ensures)
+returns : tie.Need-returns-then-c-lt65536
+returns c = simp (row_one _ c.if-c-lt65536.true) (omega arith, c.put_unit.ensures)
 
-returns-2 : tie.Need-returns-2
+returns-2 : tie.Need-returns
 returns-2 c =
-    let first = c.before.before.before.before.before.before in
-    pair_written _ _ _ _ _ _ first.before.before.if1.false first.put-unit2.ensures c.before.before.put-unit3.ensures
+    pair_written _ _ _ _ _ _ c.if-c-lt65536.false c.put_unit-2.ensures c.put_unit-3.ensures
 
-pub put-char-spec : {M : Type 1} → statement M
-put-char-spec =
+pub put_char_spec : {M : Type 1} → statement M
+put_char_spec =
     tie.close
     (tie.spec
     (λ c κs. search rules)

@@ -124,107 +124,92 @@ ended o cs out₀ out at i g h =
     let e : i ≡ length cs = omega (arith, g.low) in
     (omega (arith, rw (e, drop-length) at g.count), rw (e, drop-length) at g.places)
 
-abbrev invariant-loop2 : tie.invariant-loop2
+abbrev invariant-loop2 : tie.invariant-loop-i-2
 invariant-loop2 order chars out₀ at₀ i₀ end stop out at i = Putting order chars out₀ at₀ i₀ out at i × (i₀ ≤ i)
 
-abbrev decreases-loop2 : tie.decreases-loop2
+abbrev decreases-loop2 : tie.decreases-loop-i-2
 decreases-loop2 order chars out₀ at₀ i₀ end stop out at i = stop - i
 
-abbrev invariant-loop : tie.invariant-loop
+abbrev invariant-loop : tie.invariant-loop-i
 invariant-loop order chars out₀ at₀ i₀ out at i = Putting order chars out₀ 0 0 out at i
 
-abbrev decreases-loop : tie.decreases-loop
+abbrev decreases-loop : tie.decreases-loop-i
 decreases-loop order chars out₀ at₀ i₀ out at i = length chars - i
 
-loop-holds : tie.Need-loop-init invariant-loop2 decreases-loop2 invariant-loop decreases-loop
-loop-holds c = begin _ _ _ 0 0 (omega arith) c.before.before.requires.0 (omega (arith, c.before.before.requires.1))
+loop-holds : tie.Need-loop-i-init invariant-loop2 decreases-loop2 invariant-loop decreases-loop
+loop-holds c = begin _ _ _ 0 0 (omega arith) c.requires.0 (omega (arith, c.requires.1))
 
-short-end-requires : tie.Need-short-end-requires invariant-loop2 decreases-loop2 invariant-loop decreases-loop
-short-end-requires c κs = c.before.loop.invariant.low
+short-end-requires : tie.Need-short_end-end-requires invariant-loop2 decreases-loop2 invariant-loop decreases-loop
+short-end-requires c κs = c.loop-i.invariant.low
 
-put-short-requires : tie.Need-put-short-requires invariant-loop2 decreases-loop2 invariant-loop decreases-loop
+put-short-requires : tie.Need-put_short-requires invariant-loop2 decreases-loop2 invariant-loop decreases-loop
 put-short-requires c κs =
-    let e = c.before in
-    let p = e.short-end.ensures in
-    (p, run_room _ _ _ _ _ _ _ _ e.before.before.loop.invariant _ p)
+    let p = c.short_end-end.ensures in
+    (p, run_room _ _ _ _ _ _ _ _ c.loop-i.invariant _ p)
 
-sub_at : tie.Need-overflow-sub-at invariant-loop2 decreases-loop2 invariant-loop decreases-loop
-sub_at c = c.before.before.before.before.short-end.ensures.begun
+sub_at : tie.Need-overflow_sub-at invariant-loop2 decreases-loop2 invariant-loop decreases-loop
+sub_at c = c.short_end-end.ensures.begun
 
-mul_at : tie.Need-overflow-mul-at invariant-loop2 decreases-loop2 invariant-loop decreases-loop
+mul_at : tie.Need-overflow_mul-at invariant-loop2 decreases-loop2 invariant-loop decreases-loop
 mul_at c =
-    let e = c.before.before.before.before in
-    omega (arith, e.short-end.ensures.inside, run_room _ _ _ _ _ _ _ _ e.before.before.loop.invariant _ e.short-end.ensures, e.before.before.loop.invariant.same)
+    omega (arith, c.short_end-end.ensures.inside, run_room _ _ _ _ _ _ _ _ c.loop-i.invariant _ c.short_end-end.ensures, c.loop-i.invariant.same)
 
-add_at : tie.Need-overflow-add-at invariant-loop2 decreases-loop2 invariant-loop decreases-loop
+add_at : tie.Need-overflow_add-at invariant-loop2 decreases-loop2 invariant-loop decreases-loop
 add_at c =
-    let e = c.before.before.before.before in
-    omega (arith, e.short-end.ensures.inside, run_room _ _ _ _ _ _ _ _ e.before.before.loop.invariant _ e.short-end.ensures, e.before.before.loop.invariant.same)
+    omega (arith, c.short_end-end.ensures.inside, run_room _ _ _ _ _ _ _ _ c.loop-i.invariant _ c.short_end-end.ensures, c.loop-i.invariant.same)
 
-steps-end-requires : tie.Need-steps-end-requires invariant-loop2 decreases-loop2 invariant-loop decreases-loop
-steps-end-requires c κs = c.before.before.before.before.short-end.ensures.inside
+steps-end-requires : tie.Need-steps_end-stop-requires invariant-loop2 decreases-loop2 invariant-loop decreases-loop
+steps-end-requires c κs = c.short_end-end.ensures.inside
 
-loop2-holds : tie.Need-loop2-init invariant-loop2 decreases-loop2 invariant-loop decreases-loop
+loop2-holds : tie.Need-loop-i-2-init invariant-loop2 decreases-loop2 invariant-loop decreases-loop
 loop2-holds c =
-    let w = c.before.before.before in
-    let e = w.before.before in
-    (rw w.put-short.ensures (here _ _ _ _ _ _ _ _ (stretched _ _ _ _ _ _ _ _ e.before.before.loop.invariant _ e.short-end.ensures)), omega arith)
+    (rw c.put_short.ensures (here _ _ _ _ _ _ _ _ (stretched _ _ _ _ _ _ _ _ c.loop-i.invariant _ c.short_end-end.ensures)), omega arith)
 
-loop-less : tie.Need-loop-smaller invariant-loop2 decreases-loop2 invariant-loop decreases-loop
+loop-less : tie.Need-loop-i-smaller invariant-loop2 decreases-loop2 invariant-loop decreases-loop
 loop-less c =
-    let x = c.before in
-    let e = x.before.before.before.before.before.before in
-    let a = e.before.before.before.before.before.args in
-    by_lt e.short-end.result (length a.chars.now)
-    (λ h. omega (arith, x.before.steps-end.ensures.1 h, e.short-end.ensures.begun, c.loop2-test.false))
-    (λ h. omega (arith, x.loop2.invariant.1, e.before.loop-test.true))
+    let a = c.args in
+    by_lt c.short_end-end.result (length a.chars.now)
+    (λ h. omega (arith, c.steps_end-stop.ensures.1 h, c.short_end-end.ensures.begun, c.loop-i-2-test.false))
+    (λ h. omega (arith, c.loop-i-2.invariant.1, c.loop-i-test.true))
 
-loop-again : tie.Need-loop-preserved invariant-loop2 decreases-loop2 invariant-loop decreases-loop
+loop-again : tie.Need-loop-i-preserved invariant-loop2 decreases-loop2 invariant-loop decreases-loop
 loop-again c =
-    let x = c.before in
-    let w = x.before.before.before.before in
-    let e = w.before.before in
-    then _ _ _ _ _ _ _ _ (stretched _ _ _ _ _ _ _ _ e.before.before.loop.invariant _ e.short-end.ensures) _ _ _
-    (rw w.put-short.ensures at x.loop2.invariant.0)
+    then _ _ _ _ _ _ _ _ (stretched _ _ _ _ _ _ _ _ c.loop-i.invariant _ c.short_end-end.ensures) _ _ _
+    (rw c.put_short.ensures at c.loop-i-2.invariant.0)
 
-mul-put-char : tie.Need-overflow-mul-put-char invariant-loop2 decreases-loop2 invariant-loop decreases-loop
+mul-put-char : tie.Need-offset_bounds-chars-i invariant-loop2 decreases-loop2 invariant-loop decreases-loop
 mul-put-char c =
-    let x = c.before in
-    let s = x.before.before.before.before.before.before.before.before.before.before.before in
-    omega (arith, c.loop2-test.true, x.before.steps-end.ensures.0, s.well-formed)
+    omega (arith, c.loop-i-2-test.true, c.steps_end-stop.ensures.0, c.well_formed)
 
-shared-slice-read-put-char : tie.Need-shared-slice-read-put-char invariant-loop2 decreases-loop2 invariant-loop decreases-loop
-shared-slice-read-put-char c = omega (arith, c.before.loop2-test.true, c.before.before.before.steps-end.ensures.0)
+shared-slice-read-put-char : tie.Need-bounds-chars-i invariant-loop2 decreases-loop2 invariant-loop decreases-loop
+shared-slice-read-put-char c = omega (arith, c.loop-i-2-test.true, c.steps_end-stop.ensures.0)
 
-put-char-requires : tie.Need-put-char-requires invariant-loop2 decreases-loop2 invariant-loop decreases-loop
+put-char-requires : tie.Need-put_char-at-requires invariant-loop2 decreases-loop2 invariant-loop decreases-loop
 put-char-requires c κs =
-    let l = c.before.before in
-    let x = l.before in
-    asks _ _ _ _ _ _ _ _ x.loop2.invariant.0 (omega (arith, l.loop2-test.true, x.before.steps-end.ensures.0))
+    asks _ _ _ _ _ _ _ _ c.loop-i-2.invariant.0 (omega (arith, c.loop-i-2-test.true, c.steps_end-stop.ensures.0))
 
-add-i : tie.Need-overflow-add-i invariant-loop2 decreases-loop2 invariant-loop decreases-loop
+add-i : tie.Need-overflow_add-i invariant-loop2 decreases-loop2 invariant-loop decreases-loop
 add-i c = search rules
 
-loop2-less : tie.Need-loop2-smaller invariant-loop2 decreases-loop2 invariant-loop decreases-loop
+loop2-less : tie.Need-loop-i-2-smaller invariant-loop2 decreases-loop2 invariant-loop decreases-loop
 loop2-less c = search rules
 
-loop2-again : tie.Need-loop2-preserved invariant-loop2 decreases-loop2 invariant-loop decreases-loop
+loop2-again : tie.Need-loop-i-2-preserved invariant-loop2 decreases-loop2 invariant-loop decreases-loop
 loop2-again c =
-    let e = c.before.before.put-char.ensures in
-    let l = c.before.before.before.before.before in
-    let x = l.before in (
-      rw (e.0, e.1) (again _ _ _ _ _ _ _ _ x.loop2.invariant.0 (omega (arith, l.loop2-test.true, x.before.steps-end.ensures.0))),
-      omega (arith, x.loop2.invariant.1),
+    let e = c.put_char-at.ensures in
+    (
+      rw (e.0, e.1) (again _ _ _ _ _ _ _ _ c.loop-i-2.invariant.0 (omega (arith, c.loop-i-2-test.true, c.steps_end-stop.ensures.0))),
+      omega (arith, c.loop-i-2.invariant.1),
     )
 
-same_length : tie.Need-same-length invariant-loop2 decreases-loop2 invariant-loop decreases-loop
-same_length c = c.before.loop.invariant.same
+same_length : tie.Need-shape_of-out invariant-loop2 decreases-loop2 invariant-loop decreases-loop
+same_length c = c.loop-i.invariant.same
 
 returns : tie.Need-returns invariant-loop2 decreases-loop2 invariant-loop decreases-loop
-returns c = ended _ _ _ _ _ _ c.before.loop.invariant c.loop-test.false
+returns c = ended _ _ _ _ _ _ c.loop-i.invariant c.loop-i-test.false
 
-pub put-chars-spec : {M : Type 1} → statement M
-put-chars-spec =
+pub put_chars_spec : {M : Type 1} → statement M
+put_chars_spec =
     tie.close
     (tie.spec
     invariant-loop2

@@ -57,70 +57,58 @@ module _ (cs : List ℕ) (from end : ℕ) (t : OneUnitTo cs from end) where
   run_at : (j : ℕ) → j < end - from → get_or cs (from + j) 0 ≡ get_or run j 0
   run_at j l = sym (get_or-take (end - from) (drop from cs) j 0 l ∙ get_or-drop from cs j 0)
 
-abbrev invariant-loop : tie.invariant-loop
+abbrev invariant-loop : tie.invariant-loop-j
 invariant-loop order chars from end out₀ at j₀ out j = StoringUnits order (take (end - from) (drop from chars)) out₀ at out j
 
-abbrev decreases-loop : tie.decreases-loop
+abbrev decreases-loop : tie.decreases-loop-j
 decreases-loop order chars from end out₀ at j₀ out j = end - from - j
 
-loop-holds : tie.Need-loop-init invariant-loop decreases-loop
+loop-holds : tie.Need-loop-j-init invariant-loop decreases-loop
 loop-holds c =
-    let s = c.before.before in
-    begin _ _ _ _ (omega (arith, length_run s.args.chars.now s.args.from s.args.end s.requires.0, s.requires.1))
+    begin _ _ _ _ (omega (arith, length_run c.args.chars.now c.args.from c.args.end c.requires.0, c.requires.1))
 
-sub-loop : tie.Need-overflow-sub-loop invariant-loop decreases-loop
-sub-loop c = c.before.before.before.requires.0.begun
+sub-loop : tie.Need-overflow_sub-end invariant-loop decreases-loop
+sub-loop c = c.requires.0.begun
 
-add-put-unit : tie.Need-overflow-add-put-unit invariant-loop decreases-loop
+add-put-unit : tie.Need-overflow_add-from invariant-loop decreases-loop
 add-put-unit c =
-    let s = c.before.before.before.before in
-    omega (arith, s.requires.0.inside, c.loop-test.true)
+    omega (arith, c.requires.0.inside, c.loop-j-test.true)
 
-mul-put-unit : tie.Need-overflow-mul-put-unit invariant-loop decreases-loop
+mul-put-unit : tie.Need-offset_bounds-chars-from invariant-loop decreases-loop
 mul-put-unit c =
-    let s = c.before.before.before.before in
-    omega (arith, s.requires.0.inside, c.loop-test.true, s.well-formed)
+    omega (arith, c.requires.0.inside, c.loop-j-test.true, c.well_formed)
 
-shared-slice-read-put-unit : tie.Need-shared-slice-read-put-unit invariant-loop decreases-loop
+shared-slice-read-put-unit : tie.Need-bounds-chars-from invariant-loop decreases-loop
 shared-slice-read-put-unit c =
-    let s = c.before.before.before.before.before in
-    omega (arith, s.requires.0.inside, c.before.loop-test.true)
+    omega (arith, c.requires.0.inside, c.loop-j-test.true)
 
-mul-put-unit-2 : tie.Need-overflow-mul-put-unit-2 invariant-loop decreases-loop
+mul-put-unit-2 : tie.Need-overflow_mul-j invariant-loop decreases-loop
 mul-put-unit-2 c =
-    let s = c.before.before.before.before.before.before in
-    omega (arith, s.requires.0.inside, c.before.before.loop-test.true)
+    omega (arith, c.requires.0.inside, c.loop-j-test.true)
 
-add-put-unit-2 : tie.Need-overflow-add-put-unit-2 invariant-loop decreases-loop
+add-put-unit-2 : tie.Need-overflow_add-at invariant-loop decreases-loop
 add-put-unit-2 c =
-    let s = c.before.before.before.before.before.before in
-    omega (arith, s.requires.1, c.before.before.loop-test.true)
+    omega (arith, c.requires.1, c.loop-j-test.true)
 
-put-unit-requires : tie.Need-put-unit-requires invariant-loop decreases-loop
+put-unit-requires : tie.Need-put_unit-requires invariant-loop decreases-loop
 put-unit-requires c κs =
-    let x = c.before.before.before in
-    let s = x.before.before.before in
-    let l = c.before.before.loop-test.true in
-    (s.requires.0.each _ (omega arith) (omega (arith, l)), omega (arith, s.requires.1, x.loop.invariant.same, l))
+    let l = c.loop-j-test.true in
+    (c.requires.0.each _ (omega arith) (omega (arith, l)), omega (arith, c.requires.1, c.loop-j.invariant.same, l))
 
-loop-again : tie.Need-loop-preserved invariant-loop decreases-loop
+loop-again : tie.Need-loop-j-preserved invariant-loop decreases-loop
 loop-again c =
-    let l = c.before.before.before.before.before in
-    let x = l.before in
-    let s = x.before.before.before in
-    let n = length_run s.args.chars.now s.args.from s.args.end s.requires.0 in
-    rw c.before.before.put-unit.ensures
-    (again _ _ _ _ _ _ x.loop.invariant _ (omega (arith, n, l.loop-test.true))
-    (run_at s.args.chars.now s.args.from s.args.end s.requires.0 _ l.loop-test.true))
+    let n = length_run c.args.chars.now c.args.from c.args.end c.requires.0 in
+    rw c.put_unit.ensures
+    (again _ _ _ _ _ _ c.loop-j.invariant _ (omega (arith, n, c.loop-j-test.true))
+    (run_at c.args.chars.now c.args.from c.args.end c.requires.0 _ c.loop-j-test.true))
 
 returns : tie.Need-returns invariant-loop decreases-loop
 returns c =
-    let s = c.before.before.before.before in
-    ended _ _ _ _ _ _ c.before.loop.invariant
-    (omega (arith, length_run s.args.chars.now s.args.from s.args.end s.requires.0, c.loop-test.false))
+    ended _ _ _ _ _ _ c.loop-j.invariant
+    (omega (arith, length_run c.args.chars.now c.args.from c.args.end c.requires.0, c.loop-j-test.false))
 
-pub put-short-spec : {M : Type 1} → statement M
-put-short-spec =
+pub put_short_spec : {M : Type 1} → statement M
+put_short_spec =
     tie.close
     (tie.spec
     invariant-loop
@@ -136,5 +124,5 @@ put-short-spec =
     (λ c. search rules)
     (λ c. search rules)
     loop-again
-    (λ c. c.before.loop.invariant.same)
+    (λ c. c.loop-j.invariant.same)
     returns)

@@ -6,14 +6,14 @@ use lib.ListN.{length-set}
 use Rattle.utf16.proofs.put_unit.Statement.{statement}
 use Rattle.utf16.proofs.put_unit.Tie as tie
 
-returns : tie.Need-returns
-returns c = simp (towards_suc, c.enum_told.given.1)
+returns : tie.Need-returns-in-Little
+returns c = simp (towards_suc, c.in-Little.is)
 
-returns-2 : tie.Need-returns-2
-returns-2 c = simp (towards_suc, c.enum-told2.given.1)
+returns-2 : tie.Need-returns-in-Big
+returns-2 c = simp (towards_suc, c.in-Big.is)
 
-pub put-unit-spec : {M : Type 1} → statement M
-put-unit-spec =
+pub put_unit_spec : {M : Type 1} → statement M
+put_unit_spec =
     tie.close
     (tie.spec
     (λ c. search rules)

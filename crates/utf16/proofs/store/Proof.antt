@@ -122,104 +122,89 @@ module _ (o : ByteOrder) (bs out₀ : List ℕ) (k₀ i₀ : ℕ) (out : List �
             ∙ (rw run-then at g.places);
       }
 
-abbrev invariant-loop2 : tie.invariant-loop2
+abbrev invariant-loop2 : tie.invariant-loop-i-2
 invariant-loop2 order bytes out₀ n k₀ i₀ end stop out k i = Storing (units_in order bytes) out₀ k₀ i₀ out k i × (i₀ ≤ i)
 
-abbrev decreases-loop2 : tie.decreases-loop2
+abbrev decreases-loop2 : tie.decreases-loop-i-2
 decreases-loop2 order bytes out₀ n k₀ i₀ end stop out k i = stop - i
 
-abbrev invariant-loop : tie.invariant-loop
+abbrev invariant-loop : tie.invariant-loop-i
 invariant-loop order bytes out₀ n k₀ i₀ out k i = Storing (units_in order bytes) out₀ 0 0 out k i
 
-abbrev decreases-loop : tie.decreases-loop
+abbrev decreases-loop : tie.decreases-loop-i
 decreases-loop order bytes out₀ n k₀ i₀ out k i = n - i
 
 widen-requires : tie.Need-widen-requires invariant-loop2 decreases-loop2 invariant-loop decreases-loop
 widen-requires c κs =
-    let e = c.before in
-    let p = e.plain-end.ensures in
-    let a = e.before.before.before.before.before.args in
-    ((p.begun, p.inside), run_room a.order a.bytes.now _ _ _ _ _ _ _ e.before.before.loop.invariant p)
+    let p = c.plain_end-end.ensures in
+    let a = c.args in
+    ((p.begun, p.inside), run_room a.order a.bytes.now _ _ _ _ _ _ _ c.loop-i.invariant p)
 
-add-k : tie.Need-overflow-add-k invariant-loop2 decreases-loop2 invariant-loop decreases-loop
+add-k : tie.Need-overflow_add-k invariant-loop2 decreases-loop2 invariant-loop decreases-loop
 add-k c =
-    let e = c.before.before.before.before in
-    let p = e.plain-end.ensures in
-    let a = e.before.before.before.before.before.args in
-    omega (arith, run_room a.order a.bytes.now _ _ _ _ _ _ _ e.before.before.loop.invariant p, e.before.before.loop.invariant.same)
+    let p = c.plain_end-end.ensures in
+    let a = c.args in
+    omega (arith, run_room a.order a.bytes.now _ _ _ _ _ _ _ c.loop-i.invariant p, c.loop-i.invariant.same)
 
-loop2-holds : tie.Need-loop2-init invariant-loop2 decreases-loop2 invariant-loop decreases-loop
+loop2-holds : tie.Need-loop-i-2-init invariant-loop2 decreases-loop2 invariant-loop decreases-loop
 loop2-holds c =
-    let w = c.before.before.before in
-    let e = w.before.before in
-    let a = e.before.before.before.before.before.args in
-    let f = stretched a.order a.bytes.now _ _ _ _ _ _ _ e.before.before.loop.invariant e.plain-end.ensures in
-    (rw w.widen.ensures (here _ _ _ _ _ _ _ f), omega arith)
+    let a = c.args in
+    let f = stretched a.order a.bytes.now _ _ _ _ _ _ _ c.loop-i.invariant c.plain_end-end.ensures in
+    (rw c.widen.ensures (here _ _ _ _ _ _ _ f), omega arith)
 
-loop-less : tie.Need-loop-smaller invariant-loop2 decreases-loop2 invariant-loop decreases-loop
+loop-less : tie.Need-loop-i-smaller invariant-loop2 decreases-loop2 invariant-loop decreases-loop
 loop-less c =
-    let x = c.before in
-    let e = x.before.before.before.before.before.before in
-    let a = e.before.before.before.before.before.args in
-    by_lt e.plain-end.result (length a.bytes.now / 2)
-    (λ h. omega (arith, x.before.steps-end.ensures.1 h, e.plain-end.ensures.begun, c.loop2-test.false))
-    (λ h. omega (arith, x.loop2.invariant.1, e.before.loop-test.true))
+    let a = c.args in
+    by_lt c.plain_end-end.result (length a.bytes.now / 2)
+    (λ h. omega (arith, c.steps_end-stop.ensures.1 h, c.plain_end-end.ensures.begun, c.loop-i-2-test.false))
+    (λ h. omega (arith, c.loop-i-2.invariant.1, c.loop-i-test.true))
 
-loop-again : tie.Need-loop-preserved invariant-loop2 decreases-loop2 invariant-loop decreases-loop
+loop-again : tie.Need-loop-i-preserved invariant-loop2 decreases-loop2 invariant-loop decreases-loop
 loop-again c =
-    let x = c.before in
-    let w = x.before.before.before.before in
-    let e = w.before.before in
-    let a = e.before.before.before.before.before.args in
-    let f = stretched a.order a.bytes.now _ _ _ _ _ _ _ e.before.before.loop.invariant e.plain-end.ensures in
-    then _ _ _ _ _ _ _ f _ _ _ (rw w.widen.ensures at x.loop2.invariant.0)
+    let a = c.args in
+    let f = stretched a.order a.bytes.now _ _ _ _ _ _ _ c.loop-i.invariant c.plain_end-end.ensures in
+    then _ _ _ _ _ _ _ f _ _ _ (rw c.widen.ensures at c.loop-i-2.invariant.0)
 
-unit-at-requires : tie.Need-unit-at-requires invariant-loop2 decreases-loop2 invariant-loop decreases-loop
-unit-at-requires c κs = omega (arith, c.loop2-test.true, c.before.before.steps-end.ensures.0)
+unit-at-requires : tie.Need-unit_at-u-requires invariant-loop2 decreases-loop2 invariant-loop decreases-loop
+unit-at-requires c κs = omega (arith, c.loop-i-2-test.true, c.steps_end-stop.ensures.0)
 
-slice-write-out : tie.Need-slice-write-out invariant-loop2 decreases-loop2 invariant-loop decreases-loop
+slice-write-out : tie.Need-bounds-out-k invariant-loop2 decreases-loop2 invariant-loop decreases-loop
 slice-write-out c =
-    let l = c.before.before.before.before in
-    let x = l.before in
-    let a = x.before.before.before.before.before.before.before.before.before.before.before.args in
-    let e = c.before.before.before.unit_at.ensures.0 in
-    room _ _ _ _ _ _ _ x.loop2.invariant.0
-    (units_inside a.order a.bytes.now _ (omega (arith, l.loop2-test.true, x.before.steps-end.ensures.0)))
-    (rw (← e, ← c.before.before.is-low.ensures) (not-true _ c.before.if1.true)) c.char_at.result (rw (← e) c.char_at.ensures)
+    let a = c.args in
+    let e = c.unit_at-u.ensures.0 in
+    room _ _ _ _ _ _ _ c.loop-i-2.invariant.0
+    (units_inside a.order a.bytes.now _ (omega (arith, c.loop-i-2-test.true, c.steps_end-stop.ensures.0)))
+    (rw (← e, ← c.is_low.ensures) c.if-not-is_low.true) c.char_at.result (rw (← e) c.char_at.ensures)
 
-mul-out : tie.Need-overflow-mul-out invariant-loop2 decreases-loop2 invariant-loop decreases-loop
+mul-out : tie.Need-offset_bounds-out-k invariant-loop2 decreases-loop2 invariant-loop decreases-loop
 mul-out c = omega (arith, slice-write-out c)
 
-add-k-2 : tie.Need-overflow-add-k-2 invariant-loop2 decreases-loop2 invariant-loop decreases-loop
+add-k-2 : tie.Need-overflow_add-k-then-not-is_low invariant-loop2 decreases-loop2 invariant-loop decreases-loop
 add-k-2 c = omega (arith, slice-write-out c)
 
-loop2-again : tie.Need-loop2-preserved invariant-loop2 decreases-loop2 invariant-loop decreases-loop
+loop2-again : tie.Need-loop-i-2-preserved-then-not-is_low invariant-loop2 decreases-loop2 invariant-loop decreases-loop
 loop2-again c =
-    let l = c.before.before.before.before in
-    let x = l.before in
-    let a = x.before.before.before.before.before.before.before.before.before.before.before.args in
-    let e = c.before.before.before.unit_at.ensures.0 in (
-      stored _ _ _ _ _ _ _ x.loop2.invariant.0
-          (units_inside a.order a.bytes.now _ (omega (arith, l.loop2-test.true, x.before.steps-end.ensures.0)))
-          (rw (← e, ← c.before.before.is-low.ensures) (not-true _ c.before.if1.true)) c.char_at.result (rw (← e) c.char_at.ensures),
-      omega (arith, x.loop2.invariant.1),
+    let a = c.args in
+    let e = c.unit_at-u.ensures.0 in (
+      stored _ _ _ _ _ _ _ c.loop-i-2.invariant.0
+          (units_inside a.order a.bytes.now _ (omega (arith, c.loop-i-2-test.true, c.steps_end-stop.ensures.0)))
+          (rw (← e, ← c.is_low.ensures) c.if-not-is_low.true) c.char_at.result (rw (← e) c.char_at.ensures),
+      omega (arith, c.loop-i-2.invariant.1),
     )
 
-loop2-again-2 : tie.Need-loop2-preserved-2 invariant-loop2 decreases-loop2 invariant-loop decreases-loop
+loop2-again-2 : tie.Need-loop-i-2-preserved invariant-loop2 decreases-loop2 invariant-loop decreases-loop
 loop2-again-2 c =
-    let l = c.before.before.before in
-    let x = l.before in
-    let a = x.before.before.before.before.before.before.before.before.before.before.before.args in (
-      passed _ _ _ _ _ _ _ x.loop2.invariant.0
-          (units_inside a.order a.bytes.now _ (omega (arith, l.loop2-test.true, x.before.steps-end.ensures.0)))
-          (rw (← c.before.before.unit_at.ensures.0, ← c.before.is-low.ensures) (not-false _ c.if1.false)),
-      omega (arith, x.loop2.invariant.1),
+    let a = c.args in (
+      passed _ _ _ _ _ _ _ c.loop-i-2.invariant.0
+          (units_inside a.order a.bytes.now _ (omega (arith, c.loop-i-2-test.true, c.steps_end-stop.ensures.0)))
+          (rw (← c.unit_at-u.ensures.0, ← c.is_low.ensures) c.if-not-is_low.false),
+      omega (arith, c.loop-i-2.invariant.1),
     )
 
 returns : tie.Need-returns invariant-loop2 decreases-loop2 invariant-loop decreases-loop
 returns c =
-    let a = c.before.before.before.before.args in
-    ended _ _ _ _ _ c.before.loop.invariant (units_past a.order a.bytes.now _ c.loop-test.false)
+    let a = c.args in
+    ended _ _ _ _ _ c.loop-i.invariant (units_past a.order a.bytes.now _ c.loop-i-test.false)
 
 pub store_spec : {M : Type 1} → statement M
 store_spec =
@@ -229,7 +214,7 @@ store_spec =
     decreases-loop2
     invariant-loop
     decreases-loop
-    (λ c. begin _ _ 0 0 (omega arith) (omega (arith, c.before.before.requires)))
+    (λ c. begin _ _ 0 0 (omega arith) (omega (arith, c.requires)))
     (λ c κs. search rules)
     widen-requires
     (λ c. search rules)
@@ -249,5 +234,5 @@ store_spec =
     loop2-again
     (λ c. search rules)
     loop2-again-2
-    (λ c. c.before.loop.invariant.same)
+    (λ c. c.loop-i.invariant.same)
     returns)

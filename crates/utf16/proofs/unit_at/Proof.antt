@@ -7,12 +7,11 @@ use Rattle.utf16.proofs.unit_at.Tie as tie
 
 returns : tie.Need-returns
 returns c =
-    let a = c.before.before.before.before in
-    let e = c.unit-of.ensures in
-    (e.0 ∙ sym (unit_at a.args.order a.args.bytes.now a.args.i a.requires), e.1)
+    let e = c.unit_of.ensures in
+    (e.0 ∙ sym (unit_at c.args.order c.args.bytes.now c.args.i c.requires), e.1)
 
-pub unit-at-spec : {M : Type 1} → statement M
-unit-at-spec =
+pub unit_at_spec : {M : Type 1} → statement M
+unit_at_spec =
     tie.close
     (tie.spec
     (λ c. search rules)

@@ -4,14 +4,14 @@ use borrow.Author.Rules.{rules}
 use Rattle.utf16.proofs.unit_of.Statement.{statement}
 use Rattle.utf16.proofs.unit_of.Tie as tie
 
-returns : tie.Need-returns
-returns c = (rw c.enum_told.given.1, omega (arith, c.before.before.ranges.a, c.before.before.ranges.b))
+returns : tie.Need-returns-in-Little
+returns c = (rw c.in-Little.is, omega (arith, c.ranges.a, c.ranges.b))
 
-returns-2 : tie.Need-returns-2
-returns-2 c = (rw c.enum-told2.given.1, omega (arith, c.before.before.ranges.a, c.before.before.ranges.b))
+returns-2 : tie.Need-returns-in-Big
+returns-2 c = (rw c.in-Big.is, omega (arith, c.ranges.a, c.ranges.b))
 
-pub unit-of-spec : {M : Type 1} → statement M
-unit-of-spec =
+pub unit_of_spec : {M : Type 1} → statement M
+unit_of_spec =
     tie.close
     (tie.spec
     (λ c. search rules)

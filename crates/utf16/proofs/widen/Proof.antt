@@ -25,41 +25,37 @@ module _ (o : ByteOrder) (bs : List ℕ) (from end : ℕ) (h : end ≤ length bs
   run_at : (j : ℕ) → j < end - from → get_or (units_in o bs) (from + j) 0 ≡ get_or run j 0
   run_at j l = sym (get_or-take (end - from) (drop from (units_in o bs)) j 0 l ∙ get_or-drop from (units_in o bs) j 0)
 
-abbrev invariant-loop : tie.invariant-loop
+abbrev invariant-loop : tie.invariant-loop-j
 invariant-loop order bytes from end out₀ k j₀ out j = Storing (take (end - from) (drop from (units_in order bytes))) out₀ k out j
 
-abbrev decreases-loop : tie.decreases-loop
+abbrev decreases-loop : tie.decreases-loop-j
 decreases-loop order bytes from end out₀ k j₀ out j = end - from - j
 
-loop-holds : tie.Need-loop-init invariant-loop decreases-loop
+loop-holds : tie.Need-loop-j-init invariant-loop decreases-loop
 loop-holds c =
-    let s = c.before.before in
-    let a = s.args in
-    begin _ _ _ (omega (arith, length_run a.order a.bytes.now a.from a.end s.requires.0.1, s.requires.1))
+    let a = c.args in
+    begin _ _ _ (omega (arith, length_run a.order a.bytes.now a.from a.end c.requires.0.1, c.requires.1))
 
-slice-write-out : tie.Need-slice-write-out invariant-loop decreases-loop
+slice-write-out : tie.Need-bounds-out-k invariant-loop decreases-loop
 slice-write-out c =
-    let s = c.before.before.before.before.before in
-    let a = s.args in
-    omega (arith, length_run a.order a.bytes.now a.from a.end s.requires.0.1, c.before.before.loop.invariant.room, c.before.loop-test.true)
+    let a = c.args in
+    omega (arith, length_run a.order a.bytes.now a.from a.end c.requires.0.1, c.loop-j.invariant.room, c.loop-j-test.true)
 
-mul-out : tie.Need-overflow-mul-out invariant-loop decreases-loop
+mul-out : tie.Need-offset_bounds-out-k invariant-loop decreases-loop
 mul-out c = omega (arith, slice-write-out c)
 
-loop-again : tie.Need-loop-preserved invariant-loop decreases-loop
+loop-again : tie.Need-loop-j-preserved invariant-loop decreases-loop
 loop-again c =
-    let s = c.before.before.before.before.before in
-    let a = s.args in
-    let n = length_run a.order a.bytes.now a.from a.end s.requires.0.1 in
-    again _ _ _ _ _ c.before.before.loop.invariant _ (omega (arith, n, c.before.loop-test.true))
-    (c.unit_at.ensures.0 ∙ run_at a.order a.bytes.now a.from a.end s.requires.0.1 _ c.before.loop-test.true)
+    let a = c.args in
+    let n = length_run a.order a.bytes.now a.from a.end c.requires.0.1 in
+    again _ _ _ _ _ c.loop-j.invariant _ (omega (arith, n, c.loop-j-test.true))
+    (c.unit_at.ensures.0 ∙ run_at a.order a.bytes.now a.from a.end c.requires.0.1 _ c.loop-j-test.true)
 
 returns : tie.Need-returns invariant-loop decreases-loop
 returns c =
-    let s = c.before.before.before.before in
-    let a = s.args in
-    ended _ _ _ _ _ c.before.loop.invariant
-    (omega (arith, length_run a.order a.bytes.now a.from a.end s.requires.0.1, c.loop-test.false))
+    let a = c.args in
+    ended _ _ _ _ _ c.loop-j.invariant
+    (omega (arith, length_run a.order a.bytes.now a.from a.end c.requires.0.1, c.loop-j-test.false))
 
 pub widen_spec : {M : Type 1} → statement M
 widen_spec =
@@ -77,5 +73,5 @@ widen_spec =
     (λ c. search rules)
     (λ c. search rules)
     loop-again
-    (λ c. c.before.loop.invariant.same)
+    (λ c. c.loop-j.invariant.same)
     returns)

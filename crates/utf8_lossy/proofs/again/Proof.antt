@@ -7,20 +7,17 @@ use Rattle.utf8_lossy.proofs.Calls.{again_is}
 use Rattle.utf8_lossy.proofs.again.Statement.{statement}
 use Rattle.utf8_lossy.proofs.again.Tie as tie
 
-returns : tie.Need-returns
+returns : tie.Need-returns-in-Whole
 returns c =
-    let k = c.before.before.before in
-    again_is k.before.args.b k.before.args.n (Whole _) _ (sym k.first.ensures ∙ c.before.c.given.1) (simp add-zero)
+    again_is c.args.b c.args.n (Whole _) _ (sym c.first.ensures ∙ c.in-Whole.is) (simp add-zero)
 
-returns-2 : tie.Need-returns-2
+returns-2 : tie.Need-returns-in-More
 returns-2 c =
-    let k = c.before.before in
-    again_is k.before.args.b k.before.args.n More _ (sym k.first.ensures ∙ c.enum_told.given.1) (simp add-zero)
+    again_is c.args.b c.args.n More _ (sym c.first.ensures ∙ c.in-More.is) (simp add-zero)
 
-returns-3 : tie.Need-returns-3
+returns-3 : tie.Need-returns-in-Bad
 returns-3 c =
-    let k = c.before.before in
-    again_is k.before.args.b k.before.args.n Bad _ (sym k.first.ensures ∙ c.enum-told2.given.1) refl
+    again_is c.args.b c.args.n Bad _ (sym c.first.ensures ∙ c.in-Bad.is) refl
 
 pub again_spec : {M : Type 1} → statement M
 again_spec =

@@ -4,8 +4,8 @@ use Rattle.common.proofs.Kit.{tests}
 use Rattle.utf8_lossy.proofs.fourth.Statement.{statement}
 use Rattle.utf8_lossy.proofs.fourth.Tie as tie
 
-pub fourth-spec : {M : Type 1} → statement M
-fourth-spec =
+pub fourth_spec : {M : Type 1} → statement M
+fourth_spec =
     tie.close
     (tie.spec
     (λ c. search tests depth 12)

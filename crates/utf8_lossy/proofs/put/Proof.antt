@@ -11,23 +11,23 @@ use borrow.Author.Rules.{rules}
 use Rattle.utf8_lossy.proofs.put.Statement.{statement}
 use Rattle.utf8_lossy.proofs.put.Tie as tie
 
-slice-write-out : tie.Need-slice-write-out
-slice-write-out c = omega (arith, ap (λ (x : Out). length (chars_out x)) c.before.o.given.1)
+slice-write-out : tie.Need-bounds-out-k
+slice-write-out c = omega (arith, ap (λ (x : Out). length (chars_out x)) c.in-One.is)
 
-slice-write-out-2 : tie.Need-slice-write-out-2
-slice-write-out-2 c = omega (arith, ap (λ (x : Out). length (chars_out x)) c.before.o2.given.1)
+slice-write-out-2 : tie.Need-bounds-out-k-in-Two
+slice-write-out-2 c = omega (arith, ap (λ (x : Out). length (chars_out x)) c.in-Two.is)
 
-slice-write-out-3 : tie.Need-slice-write-out-3
-slice-write-out-3 c = simp length-set (omega (arith, ap (λ (x : Out). length (chars_out x)) c.before.o2.given.1))
+slice-write-out-3 : tie.Need-bounds-out-k-in-Two-2
+slice-write-out-3 c = simp length-set (omega (arith, ap (λ (x : Out). length (chars_out x)) c.in-Two.is))
 
-returns : tie.Need-returns
-returns c = put_is _ Nothing _ _ _ _ c.enum_told.given.1 (omega arith) refl
+returns : tie.Need-returns-in-Nothing
+returns c = put_is _ Nothing _ _ _ _ c.in-Nothing.is (omega arith) refl
 
-returns-2 : tie.Need-returns-2
-returns-2 c = put_is _ (One _) _ _ _ _ c.before.o.given.1 refl refl
+returns-2 : tie.Need-returns-in-One
+returns-2 c = put_is _ (One _) _ _ _ _ c.in-One.is refl refl
 
-returns-3 : tie.Need-returns-3
-returns-3 c = put_is _ (Two _ _) _ _ _ _ c.before.o2.given.1 refl (simp towards_suc)
+returns-3 : tie.Need-returns-in-Two
+returns-3 c = put_is _ (Two _ _) _ _ _ _ c.in-Two.is refl (simp towards_suc)
 
 pub put_spec : {M : Type 1} → statement M
 put_spec =

@@ -4,8 +4,8 @@ use Rattle.common.proofs.Kit.{tests}
 use Rattle.utf8_lossy.proofs.third.Statement.{statement}
 use Rattle.utf8_lossy.proofs.third.Tie as tie
 
-pub third-spec : {M : Type 1} → statement M
-third-spec =
+pub third_spec : {M : Type 1} → statement M
+third_spec =
     tie.close
     (tie.spec
     (λ c. search tests depth 12)

@@ -15,10 +15,10 @@ use borrow.Author.Rules.{rules}
 use Rattle.basic_text.proofs.numbers.hold_chars.Statement.{statement}
 use Rattle.basic_text.proofs.numbers.hold_chars.Tie as tie
 
-abbrev invariant-loop : tie.invariant-loop
+abbrev invariant-loop : tie.invariant-loop-i
 invariant-loop bytes good₀ i₀ good i = (i ≤ length (numbers_of bytes)) × (good && are_chars (drop i (numbers_of bytes)) ≡ are_chars (numbers_of bytes))
 
-abbrev decreases-loop : tie.decreases-loop
+abbrev decreases-loop : tie.decreases-loop-i
 decreases-loop bytes good₀ i₀ good i = length (numbers_of bytes) - i
 
 turn : (cs : List ℕ) (i n : ℕ) (good b : Bool) → i < length cs → n ≡ get_or cs i 0 → b ≡ is_char n →
@@ -26,24 +26,23 @@ turn : (cs : List ℕ) (i n : ℕ) (good b : Bool) → i < length cs → n ≡ g
 turn cs i n good b h d e = rw (and_assoc, e, d, add-one, drop-cons cs i 0)
 
 -- a turn has a number to read
-more : (c : tie.In-loop invariant-loop decreases-loop) → c.before.loop.i < length (numbers_of c.before.before.before.args.bytes.now)
-more c = omega (arith, length_numbers c.before.before.before.args.bytes.now)
+more : (c : tie.In-loop-i invariant-loop decreases-loop) → c.loop-i.i < length (numbers_of c.args.bytes.now)
+more c = omega (arith, length_numbers c.args.bytes.now)
 
-loop-again : tie.Need-loop-preserved invariant-loop decreases-loop
+loop-again : tie.Need-loop-i-preserved invariant-loop decreases-loop
 loop-again c =
-    let d = c.before.before in
-    let l = d.before.loop in
-    (omega (arith, more d), turn _ l.i _ l.good c.is-char.result (more d) c.before.read_number.ensures c.is-char.ensures ∙ l.invariant.1)
+    let l = c.loop-i in
+    (omega (arith, more c.before.before), turn _ l.i _ l.good c.is_char-good.result (more c.before.before) c.read_number.ensures c.is_char-good.ensures ∙ l.invariant.1)
 
 returns : tie.Need-returns invariant-loop decreases-loop
 returns c =
-    let l = c.before.loop in
-    let bytes = c.before.before.before.args.bytes.now in
+    let l = c.loop-i in
+    let bytes = c.args.bytes.now in
     let past : length (numbers_of bytes) ≤ l.i = omega (arith, length_numbers bytes) in
     sym (and-true l.good) ∙ rw (drop_of_length-le (numbers_of bytes) past) at l.invariant.1
 
-pub hold-chars-spec : {M : Type 1} → statement M
-hold-chars-spec =
+pub hold_chars_spec : {M : Type 1} → statement M
+hold_chars_spec =
     tie.close
     (tie.spec
     invariant-loop

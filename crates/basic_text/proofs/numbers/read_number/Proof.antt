@@ -7,11 +7,10 @@ use Rattle.basic_text.proofs.numbers.read_number.Tie as tie
 
 returns : tie.Need-returns
 returns c =
-    let a = c.before.before.before.before.before.before in
-    c.joined.ensures ∙ sym (numbers_at a.args.bytes.now a.args.i a.requires)
+    c.joined.ensures ∙ sym (numbers_at c.args.bytes.now c.args.i c.requires)
 
-pub read-number-spec : {M : Type 1} → statement M
-read-number-spec =
+pub read_number_spec : {M : Type 1} → statement M
+read_number_spec =
     tie.close
     (tie.spec
     (λ c. search rules)

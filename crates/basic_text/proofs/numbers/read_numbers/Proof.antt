@@ -27,35 +27,34 @@ turn ns out₀ out i n g h e =
       places = rw (add-one i, e) (rw (drop-cons ns i 0 h) at g.places);
     }
 
-abbrev invariant-loop : tie.invariant-loop
+abbrev invariant-loop : tie.invariant-loop-i
 invariant-loop bytes out₀ i₀ out i = Going (numbers_of bytes) out₀ out i
 
-abbrev decreases-loop : tie.decreases-loop
+abbrev decreases-loop : tie.decreases-loop-i
 decreases-loop bytes out₀ i₀ out i = length (numbers_of bytes) - i
 
 -- a turn has a number to read
-more : (c : tie.In-loop invariant-loop decreases-loop) → c.before.loop.i < length (numbers_of c.before.before.before.before.args.bytes.now)
-more c = omega (arith, length_numbers c.before.before.before.before.args.bytes.now)
+more : (c : tie.In-loop-i invariant-loop decreases-loop) → c.loop-i.i < length (numbers_of c.args.bytes.now)
+more c = omega (arith, length_numbers c.args.bytes.now)
 
-loop-holds : tie.Need-loop-init invariant-loop decreases-loop
+loop-holds : tie.Need-loop-i-init invariant-loop decreases-loop
 loop-holds c =
-    let s = c.before.before in
     record { low = omega arith; same = refl; places = refl }
 
-slice-write-out : tie.Need-slice-write-out invariant-loop decreases-loop
-slice-write-out c = omega (arith, more c.before, c.before.before.loop.invariant.same)
+slice-write-out : tie.Need-bounds-out-i invariant-loop decreases-loop
+slice-write-out c = omega (arith, more c.before, c.loop-i.invariant.same)
 
-loop-again : tie.Need-loop-preserved invariant-loop decreases-loop
-loop-again c = turn _ _ _ _ _ c.before.before.loop.invariant (more c.before) c.read_number.ensures
+loop-again : tie.Need-loop-i-preserved invariant-loop decreases-loop
+loop-again c = turn _ _ _ _ _ c.loop-i.invariant (more c.before) c.read_number.ensures
 
 returns : tie.Need-returns invariant-loop decreases-loop
 returns c =
-    let bytes = c.before.before.before.before.args.bytes.now in
-    let past : length (numbers_of bytes) ≤ c.before.loop.i = omega (arith, length_numbers bytes) in
-    rw (drop_of_length-le (numbers_of bytes) past) at c.before.loop.invariant.places
+    let bytes = c.args.bytes.now in
+    let past : length (numbers_of bytes) ≤ c.loop-i.i = omega (arith, length_numbers bytes) in
+    rw (drop_of_length-le (numbers_of bytes) past) at c.loop-i.invariant.places
 
-pub read-numbers-spec : {M : Type 1} → statement M
-read-numbers-spec =
+pub read_numbers_spec : {M : Type 1} → statement M
+read_numbers_spec =
     tie.close
     (tie.spec
     invariant-loop
@@ -67,5 +66,5 @@ read-numbers-spec =
     (λ c. omega (arith, more c.before))
     (λ c. omega (arith, more c.before))
     loop-again
-    (λ c. c.before.loop.invariant.same)
+    (λ c. c.loop-i.invariant.same)
     returns)

@@ -6,8 +6,8 @@ use lib.ListN.{length-set}
 use Rattle.basic_text.proofs.numbers.write_number.Statement.{statement}
 use Rattle.basic_text.proofs.numbers.write_number.Tie as tie
 
-pub write-number-spec : {M : Type 1} → statement M
-write-number-spec =
+pub write_number_spec : {M : Type 1} → statement M
+write_number_spec =
     tie.close
     (tie.spec
     (λ c. search rules)

@@ -12,33 +12,33 @@ use Rattle.basic_text.proofs.Stores.{sets_next}
 use Rattle.basic_text.proofs.numbers.write_numbers.Statement.{statement}
 use Rattle.basic_text.proofs.numbers.write_numbers.Tie as tie
 
-abbrev invariant-loop : tie.invariant-loop
+abbrev invariant-loop : tie.invariant-loop-i
 invariant-loop bytes₀ k from n i₀ bytes i = (i ≤ n) × (bytes ≡ sets bytes₀ (4 * k) (bytes_of (take i from)))
 
-abbrev decreases-loop : tie.decreases-loop
+abbrev decreases-loop : tie.decreases-loop-i
 decreases-loop bytes₀ k from n i₀ bytes i = n - i
 
-write-number-requires : tie.Need-write-number-requires invariant-loop decreases-loop
-write-number-requires c κs = omega (arith, simp length-sets at (ap length c.before.before.before.loop.invariant.1))
+write-number-requires : tie.Need-write_number-requires invariant-loop decreases-loop
+write-number-requires c κs = omega (arith, simp length-sets at (ap length c.loop-i.invariant.1))
 
-loop-again : tie.Need-loop-preserved invariant-loop decreases-loop
+loop-again : tie.Need-loop-i-preserved invariant-loop decreases-loop
 loop-again c =
-    let l = c.before.before.before.before.before.before.loop in
-    let a = c.before.before.before.before.before.before.before.before.before.args in (
+    let l = c.loop-i in
+    let a = c.args in (
       omega arith,
-      c.before.before.write-number.ensures
+      c.write_number.ensures
           ∙ ap (λ (b : List ℕ). sets b (4 * (a.k + l.i)) (bytes_of (get_or a.from.now l.i 0 ∷ []))) l.invariant.1
           ∙ sym (sets_next a.from.now a.bytes.now a.k l.i (omega arith)),
     )
 
 returns : tie.Need-returns invariant-loop decreases-loop
 returns c =
-    let a = c.before.before.before.before.args in
-    let e : c.before.loop.i ≡ a.n = omega arith in
-    rw e at c.before.loop.invariant.1
+    let a = c.args in
+    let e : c.loop-i.i ≡ a.n = omega arith in
+    rw e at c.loop-i.invariant.1
 
-pub write-numbers-spec : {M : Type 1} → statement M
-write-numbers-spec =
+pub write_numbers_spec : {M : Type 1} → statement M
+write_numbers_spec =
     tie.close
     (tie.spec
     invariant-loop
@@ -51,5 +51,5 @@ write-numbers-spec =
     (λ c. omega arith)
     (λ c. omega arith)
     loop-again
-    (λ c. simp length-sets at (ap length c.before.loop.invariant.1))
+    (λ c. simp length-sets at (ap length c.loop-i.invariant.1))
     returns)

@@ -6,5 +6,5 @@ use Rattle.basic_text.proofs.plain.options_of.Tie as tie
 returns : tie.Need-returns
 returns c = search rules
 
-pub options-of-spec : {M : Type 1} → statement M
-options-of-spec = tie.close (tie.spec returns)
+pub options_of_spec : {M : Type 1} → statement M
+options_of_spec = tie.close (tie.spec returns)

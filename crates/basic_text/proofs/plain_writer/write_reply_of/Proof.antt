@@ -5,28 +5,28 @@ use Rattle.text_output.proofs.Answers.{four_fails}
 use Rattle.basic_text.proofs.plain_writer.write_reply_of.Statement.{statement}
 use Rattle.basic_text.proofs.plain_writer.write_reply_of.Tie as tie
 
-returns : tie.Need-returns
-returns c = simp (c.before.answer.given.1, c.before.before.before.writer-numbers.ensures)
+returns : tie.Need-returns-in-HandedOut
+returns c = simp (c.in-HandedOut.is, c.writer_numbers-writer.ensures)
 
-returns-2 : tie.Need-returns-2
+returns-2 : tie.Need-returns-in-Refused
 returns-2 c =
-    simp (c.before.answer2.given.1, c.before.before.before.writer-numbers.ensures)
+    simp (c.in-Refused.is, c.writer_numbers-writer.ensures)
 
-returns-3 : tie.Need-returns-3
+returns-3 : tie.Need-returns-in-Abandon
 returns-3 c =
-    simp (c.before.answer3.given.1, c.before.before.before.writer-numbers.ensures)
+    simp (c.in-Abandon.is, c.writer_numbers-writer.ensures)
 
-returns-4 : tie.Need-returns-4
+returns-4 : tie.Need-returns-in-Unwritable
 returns-4 c =
     simp (
-      c.reason-of.ensures,
-      c.before.before.answer4.given.1,
-      c.before.before.before.before.writer-numbers.ensures,
-      four_fails (error_numbers c.before.before.answer4.given.0.0),
+      c.reason_of-why.ensures,
+      c.in-Unwritable.is,
+      c.writer_numbers-writer.ensures,
+      four_fails (error_numbers c.in-Unwritable.e),
     )
 
-pub write-reply-of-spec : {M : Type 1} → statement M
-write-reply-of-spec =
+pub write_reply_of_spec : {M : Type 1} → statement M
+write_reply_of_spec =
     tie.close
     (tie.spec
     (λ c κs. search rules)

@@ -4,7 +4,7 @@ use Rattle.basic_text.proofs.plain_writer.writer_of.Statement.{statement}
 use Rattle.basic_text.proofs.plain_writer.writer_of.Tie as tie
 
 returns : tie.Need-returns
-returns c = rw (c.before.before.Mode-of.ensures, c.before.flag-of.ensures, c.writer-state-of.ensures)
+returns c = rw (c.mode_of.ensures, c.flag_of.ensures, c.writer_state_of.ensures)
 
-pub writer-of-spec : {M : Type 1} → statement M
-writer-of-spec = tie.close (tie.spec (λ c κs. search rules) (λ c κs. search rules) (λ c κs. search rules) returns)
+pub writer_of_spec : {M : Type 1} → statement M
+writer_of_spec = tie.close (tie.spec (λ c κs. search rules) (λ c κs. search rules) (λ c κs. search rules) returns)

@@ -27,81 +27,63 @@ chars s = numbers_of s.args.bytes.now
 abbrev out : tie.Start → List ℕ
 out s = outs s.args.page.now s.args.options s.args.r (chars s)
 
-abbrev Entry : tie.After-read-numbers → tie.Start
-Entry c = c.before.before.before.before.before.before.before
-
 -- they are the first of the numbers
-read : (c : tie.After-read-numbers) →
-    let s = Entry c in
-    let m = length s.args.bytes.now / 4 in
-    (m ≤ length c.read-numbers.new.1.0) × (take (m - 0) (drop 0 c.read-numbers.new.1.0) ≡ chars s)
+read : (c : tie.After-read_numbers) →
+    let m = length c.args.bytes.now / 4 in
+    (m ≤ length c.read_numbers.new.out) × (take (m - 0) (drop 0 c.read_numbers.new.out) ≡ chars c.before.before.before.before.before.before.before)
 read c =
-    let s = Entry c in
-    let m = length s.args.bytes.now / 4 in
-    let h = stored_first (chars s) _ _ m (sym (length_numbers s.args.bytes.now)) s.pre.1.0 c.read-numbers.ensures in
+    let m = length c.args.bytes.now / 4 in
+    let h = stored_first (chars c.before.before.before.before.before.before.before) _ _ m (sym (length_numbers c.args.bytes.now)) c.requires.1.0 c.read_numbers.ensures in
     (h.0, rw sub-zero h.1)
 
-run-requires : tie.Need-run-requires
+run-requires : tie.Need-run-ran-requires
 run-requires c κs =
-    let d = c.before.before.before.before.before in
-    let s = Entry d in
-    let a = s.args in
-    let n = ap (λ (l : List ℕ). length (outs a.page.now a.options a.r l)) (read d).1 in
-    (s.pre.0, omega (arith, n, room a.page.now a.options a.r (chars s), s.pre.1.1.0))
-
-abbrev Read : tie.After-run → tie.After-read-numbers
-Read c = c.before.before.before.before.before.before
+    let a = c.args in
+    let n = ap (λ (l : List ℕ). length (outs a.page.now a.options a.r l)) (read c.before.before.before.before).1 in
+    (c.requires.0, omega (arith, n, room a.page.now a.options a.r (chars c.before.before.before.before.before.before.before.before.before.before.before), c.requires.1.1.0))
 
 -- the run of the piece
-ran : (c : tie.After-run) →
-    let s = Entry (Read c) in
-    (c.run.result ≡ ran_by 0 (run_of s.args.page.now s.args.options s.args.r (chars s)))
-    × (c.run.new.1.1.1.1.0 ≡ sets s.args.places.now 0 (out s))
-ran c = rw (read (Read c)).1 at c.run.ensures
+ran : (c : tie.After-run-ran) →
+    (c.run-ran.result ≡ ran_by 0 (run_of c.args.page.now c.args.options c.args.r (chars c.before.before.before.before.before.before.before.before.before.before.before.before)))
+    × (c.run-ran.new.queue ≡ sets c.args.places.now 0 (out c.before.before.before.before.before.before.before.before.before.before.before.before))
+ran c = rw (read c.before.before.before.before.before).1 at c.run-ran.ensures
 
 -- how many characters it appends
-many : (c : tie.After-run) → c.run.result.written ≡ length (out (Entry (Read c)))
+many : (c : tie.After-run-ran) → c.run-ran.result.written ≡ length (out c.before.before.before.before.before.before.before.before.before.before.before.before)
 many c = ap (λ (x : Ran). x.written) (ran c).0 ∙ zero-add _
 
 -- the first places hold them
-held : (c : tie.After-run) →
-    (c.run.result.written ≤ length c.run.new.1.1.1.1.0)
-    × (take c.run.result.written c.run.new.1.1.1.1.0 ≡ out (Entry (Read c)))
+held : (c : tie.After-run-ran) →
+    (c.run-ran.result.written ≤ length c.run-ran.new.queue)
+    × (take c.run-ran.result.written c.run-ran.new.queue ≡ out c.before.before.before.before.before.before.before.before.before.before.before.before)
 held c =
-    let s = Entry (Read c) in
-    stored_first (out s) s.args.places.now _ _ (many c)
-    (omega (arith, room s.args.page.now s.args.options s.args.r (chars s), s.pre.1.1.0)) (ran c).1
+    stored_first (out c.before.before.before.before.before.before.before.before.before.before.before.before) c.args.places.now _ _ (many c)
+    (omega (arith, room c.args.page.now c.args.options c.args.r (chars c.before.before.before.before.before.before.before.before.before.before.before.before), c.requires.1.1.0)) (ran c).1
 
-write-numbers-requires : tie.Need-write-numbers-requires
+write-numbers-requires : tie.Need-write_numbers-requires
 write-numbers-requires c κs =
-    let d = c.before.before.before.before in
-    ((held d).0, omega (arith, many d, (Entry (Read d)).requires.1.1.1))
+    ((held c.before.before.before).0, omega (arith, many c.before.before.before, (c).requires.1.1.1))
 
-abbrev Done : tie.After-next → tie.After-run
-Done c = c.before.before.before.before.before.before.before.before
-
-add-t16 : tie.Need-overflow-add-t16
+add-t16 : tie.Need-overflow_add-result
 add-t16 c =
-    let s = Entry (Read (Done c)) in
-    omega (arith, many (Done c), s.pre.1.1.1, s.good)
+    omega (arith, many c.before.before.before.before.before.before.before, c.requires.1.1.1, c.well_formed)
 
 returns : tie.Need-returns
 returns c =
-    let d = Done c in
-    let a = (Entry (Read d)).args in (
-      ran_is (omega (arith, many d)) (ap (λ (x : Ran). x.next) (ran d).0),
-      c.before.before.before.write-numbers.ensures
-          ∙ ap (λ (l : List ℕ). sets a.queue.now (4 * a.k) (bytes_of l)) (held d).1,
+    let a = (c).args in (
+      ran_is (omega (arith, many c.before.before.before.before.before.before.before)) (ap (λ (x : Ran). x.next) (ran c.before.before.before.before.before.before.before).0),
+      c.write_numbers.ensures
+          ∙ ap (λ (l : List ℕ). sets a.queue.now (4 * a.k) (bytes_of l)) (held c.before.before.before.before.before.before.before).1,
     )
 
-pub piece-spec : {M : Type 1} → statement M
-piece-spec =
+pub piece_spec : {M : Type 1} → statement M
+piece_spec =
     tie.close
     (tie.spec
     (λ c κs. search rules)
     (λ c. search rules)
     (λ c. search rules)
-    (λ c. (read c.before.before.before).0)
+    (λ c. (read c.before.before).0)
     run-requires
     write-numbers-requires
     add-t16

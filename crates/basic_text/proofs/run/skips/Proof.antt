@@ -24,28 +24,26 @@ no-bom [] h = refl
 no-bom (n ∷ ns) h = absurd (omega arith)
 
 -- no call was accepted before
-fresh : (c : tie.Then1) → c.before.before.args.r.at_start ≡ true
-fresh c = c.if1.true
+fresh : (c : tie.Then-r) → c.args.r.at_start ≡ true
+fresh c = c.if-r.true
 
-returns : tie.Need-returns
+returns : tie.Need-returns-then-read_number-eq-BOM
 returns c =
-    let d = c.before.before in
-    let chunk = d.before.before.before.args.chunk.now in
-    let there : 0 < length (numbers_of chunk) = omega (arith, length_numbers chunk, d.if2.true) in
-    rw (fresh d.before, first-bom (numbers_of chunk) there, eq-eqb _ _ (sym c.before.read_number.ensures ∙ c.if3.true))
+    let chunk = c.args.chunk.now in
+    let there : 0 < length (numbers_of chunk) = omega (arith, length_numbers chunk, c.if-chunk-ge4.true) in
+    rw (fresh c.before.before.before, first-bom (numbers_of chunk) there, eq-eqb _ _ (sym c.read_number.ensures ∙ c.if-read_number-eq-BOM.true))
 
-returns-2 : tie.Need-returns-2
+returns-2 : tie.Need-returns-else-read_number-eq-BOM
 returns-2 c =
-    let d = c.before.before in
-    let chunk = d.before.before.before.args.chunk.now in
-    let there : 0 < length (numbers_of chunk) = omega (arith, length_numbers chunk, d.if2.true) in
-    rw (fresh d.before, first-bom (numbers_of chunk) there, ← c.before.read_number.ensures, ne_eqb _ _ c.if3.false)
+    let chunk = c.args.chunk.now in
+    let there : 0 < length (numbers_of chunk) = omega (arith, length_numbers chunk, c.if-chunk-ge4.true) in
+    rw (fresh c.before.before.before, first-bom (numbers_of chunk) there, ← c.read_number.ensures, ne_eqb _ _ c.if-read_number-eq-BOM.false)
 
-returns-3 : tie.Need-returns-3
+returns-3 : tie.Need-returns-else-chunk-ge4
 returns-3 c =
-    let chunk = c.before.before.before.args.chunk.now in
-    let none : length (numbers_of chunk) < 1 = omega (arith, length_numbers chunk, c.if2.false) in
+    let chunk = c.args.chunk.now in
+    let none : length (numbers_of chunk) < 1 = omega (arith, length_numbers chunk, c.if-chunk-ge4.false) in
     rw (fresh c.before, no-bom (numbers_of chunk) none)
 
-pub skips-spec : {M : Type 1} → statement M
-skips-spec = tie.close (tie.spec (λ c κs. search rules) returns returns-2 returns-3 (λ c. search rules))
+pub skips_spec : {M : Type 1} → statement M
+skips_spec = tie.close (tie.spec (λ c κs. search rules) returns returns-2 returns-3 (λ c. search rules))

@@ -8,5 +8,5 @@ returns : tie.Need-returns
 returns c =
     unfold at_place in refl
 
-pub at-place-spec : {M : Type 1} → statement M
-at-place-spec = tie.close (tie.spec returns)
+pub at_place_spec : {M : Type 1} → statement M
+at_place_spec = tie.close (tie.spec returns)

@@ -11,50 +11,42 @@ use borrow.Author.Rules.{rules}
 use Rattle.basic_text.proofs.writing.finish_bytes.Statement.{statement}
 use Rattle.basic_text.proofs.writing.finish_bytes.Tie as tie
 
-finish-requires : tie.Need-finish-requires
+finish-requires : tie.Need-finish-pushed-requires
 finish-requires c κs =
-    let o = c.before.before in
-    let s = o.before.before in
-    let a = s.args in
+    let a = c.args in
     let m = machine_at a.w a.escape.now in
-    let own = o.at_place.ensures in
+    let own = c.at_place.ensures in
     let is = own_machine a.w _ own a.escape.now in
-    let few : length (pushed (steps_of a.mode m [] (last_owed a.isolator))) ≤ 67 = finish_few a.mode m a.isolator s.requires.0 in
-    (rw is s.requires.0, rw (is, own_at a.w _ own) (omega (arith, few)))
+    let few : length (pushed (steps_of a.mode m [] (last_owed a.isolator))) ≤ 67 = finish_few a.mode m a.isolator c.requires.0 in
+    (rw is c.requires.0, rw (is, own_at a.w _ own) (omega (arith, few)))
 
-move-behind-requires : tie.Need-move-behind-requires
+move-behind-requires : tie.Need-move_behind-requires
 move-behind-requires c κs =
-    let f = c.before.before.before in
-    let o = f.before.before.before in
-    let s = o.before.before in
-    let a = s.args in
+    let a = c.args in
     let m = machine_at a.w a.escape.now in
-    let own = o.at_place.ensures in
+    let own = c.at_place.ensures in
     let is = own_machine a.w _ own a.escape.now in
     let last = steps_of a.mode m [] (last_owed a.isolator) in
-    let few : length (pushed last) ≤ 67 = finish_few a.mode m a.isolator s.requires.0 in
-    let x = f.finish.result in
-    let e = rw (is, own_at a.w _ own) at f.finish.ensures in
-    (moved_few x _ _ _ last e few, omega (arith, moved_at x _ _ _ last e, s.requires.1))
+    let few : length (pushed last) ≤ 67 = finish_few a.mode m a.isolator c.requires.0 in
+    let x = c.finish-pushed.result in
+    let e = rw (is, own_at a.w _ own) at c.finish-pushed.ensures in
+    (moved_few x _ _ _ last e few, omega (arith, moved_at x _ _ _ last e, c.requires.1))
 
 returns : tie.Need-returns
 returns c =
-    let f = c.before.before.before.before.before.before in
-    let o = f.before.before.before in
-    let s = o.before.before in
-    let a = s.args in
+    let a = c.args in
     let m = machine_at a.w a.escape.now in
-    let own = o.at_place.ensures in
+    let own = c.at_place.ensures in
     let is = own_machine a.w _ own a.escape.now in
     let last = steps_of a.mode m [] (last_owed a.isolator) in
-    let few : length (pushed last) ≤ 67 = finish_few a.mode m a.isolator s.requires.0 in
-    let x = f.finish.result in
-    let e = rw (is, own_at a.w _ own) at f.finish.ensures in
-    let b = c.before.before.move-behind.ensures in
+    let few : length (pushed last) ≤ 67 = finish_few a.mode m a.isolator c.requires.0 in
+    let x = c.finish-pushed.result in
+    let e = rw (is, own_at a.w _ own) at c.finish-pushed.ensures in
+    let b = c.move_behind.ensures in
     (rw b.0 (moved x _ _ _ last e few a.w.at _ _ b.1.0), b.1.1)
 
-pub finish-bytes-spec : {M : Type 1} → statement M
-finish-bytes-spec =
+pub finish_bytes_spec : {M : Type 1} → statement M
+finish_bytes_spec =
     tie.close
     (tie.spec
     (λ c κs. search rules)

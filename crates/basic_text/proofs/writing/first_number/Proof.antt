@@ -16,9 +16,9 @@ none_first (a ∷ b ∷ []) h = refl
 none_first (a ∷ b ∷ c ∷ []) h = refl
 none_first (a ∷ b ∷ c ∷ d ∷ rest) h = absurd (omega (arith, h))
 
-returns : tie.Need-returns
+returns : tie.Need-returns-then-queue-lt4
 returns c =
-    none_first c.before.before.args.queue.now c.if1.true
+    none_first c.args.queue.now c.if-queue-lt4.true
 
-pub first-number-spec : {M : Type 1} → statement M
-first-number-spec = tie.close (tie.spec returns (λ c κs. search rules) (λ c. search rules))
+pub first_number_spec : {M : Type 1} → statement M
+first_number_spec = tie.close (tie.spec returns (λ c κs. search rules) (λ c. search rules))

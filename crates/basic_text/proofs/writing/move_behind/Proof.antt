@@ -6,40 +6,38 @@ use borrow.Author.Rules.{rules}
 use Rattle.basic_text.proofs.writing.move_behind.Statement.{statement}
 use Rattle.basic_text.proofs.writing.move_behind.Tie as tie
 
-store-numbers-requires : tie.Need-store-numbers-requires
+store-numbers-requires : tie.Need-store_numbers-requires
 store-numbers-requires c κs =
-    let p = c.before.before.before.before.before.before.requires in
-    rw c.before.before.pushed.given.1 at (p)
+    let p = c.requires in
+    rw c.in-On.is at (p)
 
-add-at-place : tie.Need-overflow-add-at-place
+add-at-place : tie.Need-overflow_add-k
 add-at-place c =
-    let s = c.before.before.before.before.before.before.before.before.before.before in
-    let room = rw c.before.before.before.before.before.before.pushed.given.1 at s.requires.1 in
-    omega (arith, room, length_numbers s.args.queue.now)
+    let room = rw c.in-On.is at c.requires.1 in
+    omega (arith, room, length_numbers c.args.queue.now)
 
-store-numbers-requires-2 : tie.Need-store-numbers-requires-2
+store-numbers-requires-2 : tie.Need-store_numbers-requires-in-Stopped
 store-numbers-requires-2 c κs =
-    let p = c.before.before.before.before.before.before.requires in
-    rw c.before.before.pushed2.given.1 at (p)
+    let p = c.requires in
+    rw c.in-Stopped.is at (p)
 
-add-at-place-2 : tie.Need-overflow-add-at-place-2
+add-at-place-2 : tie.Need-overflow_add-k-in-Stopped
 add-at-place-2 c =
-    let s = c.before.before.before.before.before.before.before.before.before.before in
-    let room = rw c.before.before.before.before.before.before.pushed2.given.1 at s.requires.1 in
-    omega (arith, room, length_numbers s.args.queue.now)
+    let room = rw c.in-Stopped.is at c.requires.1 in
+    omega (arith, room, length_numbers c.args.queue.now)
 
-returns : tie.Need-returns
+returns : tie.Need-returns-in-On
 returns c =
-    let e = c.before.before.before.before.store-numbers.ensures in
-    rw c.before.before.before.before.before.before.before.pushed.given.1 (rw c.at_place.ensures refl, (e.0, e.1))
+    let e = c.store_numbers.ensures in
+    rw c.in-On.is (rw c.at_place.ensures refl, (e.0, e.1))
 
-returns-2 : tie.Need-returns-2
+returns-2 : tie.Need-returns-in-Stopped
 returns-2 c =
-    let e = c.before.before.before.before.store-numbers2.ensures in
-    rw c.before.before.before.before.before.before.before.pushed2.given.1 (rw c.at-place2.ensures refl, (e.0, e.1))
+    let e = c.store_numbers-in-Stopped.ensures in
+    rw c.in-Stopped.is (rw c.at_place-in-Stopped.ensures refl, (e.0, e.1))
 
-pub move-behind-spec : {M : Type 1} → statement M
-move-behind-spec =
+pub move_behind_spec : {M : Type 1} → statement M
+move_behind_spec =
     tie.close
     (tie.spec
     (λ c. search rules)

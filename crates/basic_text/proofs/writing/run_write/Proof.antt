@@ -14,85 +14,69 @@ use Rattle.basic_text.specs.Inner.{tail}
 use Rattle.basic_text.proofs.writing.run_write.Statement.{statement}
 use Rattle.basic_text.proofs.writing.run_write.Tie as tie
 
-abbrev invariant-loop : tie.invariant-loop
+abbrev invariant-loop : tie.invariant-loop-c
 invariant-loop page mode bytes escape₀ queue₀ w₀ isolator₀ place₀ escape queue w isolator place =
     (tail queue ≡ tail queue₀)
     × ((length queue ≡ length queue₀)
     × Going (Bytes bytes) page mode w₀ escape₀ (numbers_of queue₀) (chars_of bytes) w isolator place escape (numbers_of queue))
 
-abbrev decreases-loop : tie.decreases-loop
+abbrev decreases-loop : tie.decreases-loop-c
 decreases-loop page mode bytes escape₀ queue₀ w₀ isolator₀ place₀ escape queue w isolator place = length bytes - place
 
 -- in the loop, from its head on: a character begins, or none does
-abbrev entry : tie.At-loop invariant-loop decreases-loop → tie.Start invariant-loop decreases-loop
-entry h = h.before.before.before.before.before
-
-on : (l : tie.After-c invariant-loop decreases-loop) →
-    let h = l.before.before.before in
-    LeftOn (Bytes (entry h).args.bytes.now) l.c.given.0.0 l.c.given.0.1.0 h.loop.invariant.1.1.cs
+on : (l : tie.In-Char invariant-loop decreases-loop) →
+    LeftOn (Bytes l.args.bytes.now) l.in-Char.c l.in-Char.next_place l.loop-c.invariant.1.1.cs
 on l =
-    let u = l.before.before in
-    bytes_on _ _ _ _ _ u.before.loop.invariant.1.1.left (sym u.utf8-step.ensures ∙ l.c.given.1)
+    bytes_on _ _ _ _ _ l.loop-c.invariant.1.1.left (sym l.utf8_step.ensures ∙ l.in-Char.is)
 
-none : (l : tie.After-enum-told invariant-loop decreases-loop) → l.before.before.before.loop.invariant.1.1.cs ≡ []
+none : (l : tie.In_default invariant-loop decreases-loop) → l.loop-c.invariant.1.1.cs ≡ []
 none l =
-    let u = l.before.before in
-    bytes_end _ _ _ u.before.loop.invariant.1.1.left (sym u.utf8-step.ensures ∙ l.enum_told.given.1)
+    bytes_end _ _ _ l.loop-c.invariant.1.1.left (sym l.utf8_step.ensures ∙ l.in_default.is)
 
-loop-holds : tie.Need-loop-init invariant-loop decreases-loop
+loop-holds : tie.Need-loop-c-init invariant-loop decreases-loop
 loop-holds c =
-    (refl, (refl, begin c.before.before.before.before.requires (bytes_begin _) _ c.new.ensures))
+    (refl, (refl, begin c.requires (bytes_begin _) _ c.new-isolator.ensures))
 
-enum_told : tie.Need-enum-told invariant-loop decreases-loop
+enum_told : tie.Need-enum_told-1 invariant-loop decreases-loop
 enum_told c = search rules
 
-turn-bytes-requires : tie.Need-turn-bytes-requires invariant-loop decreases-loop
+turn-bytes-requires : tie.Need-turn_bytes-turned-requires invariant-loop decreases-loop
 turn-bytes-requires c κs =
-    let l = c.before.before.before in
-    let h = l.before.before.before in
-    turn_asks h.loop.invariant.1.1 (on l) (entry h).requires
+    turn_asks c.loop-c.invariant.1.1 (on c.before.before) c.requires
 
-loop-less : tie.Need-loop-smaller invariant-loop decreases-loop
+loop-less : tie.Need-loop-c-smaller invariant-loop decreases-loop
 loop-less c =
-    let l = c.before.before.before.before.before.before.before.before.before.before in omega (arith, step_on _ _ _ _ (sym l.before.before.utf8-step.ensures ∙ l.c.given.1))
+    omega (arith, step_on _ _ _ _ (sym c.utf8_step.ensures ∙ c.in-Char.is))
 
-loop-again : tie.Need-loop-preserved invariant-loop decreases-loop
+loop-again : tie.Need-loop-c-preserved invariant-loop decreases-loop
 loop-again c =
-    let t = c.before.before.before.before.before.before in
-    let l = t.before.before.before.before in
-    let i = l.before.before.before.loop.invariant in
-    let e = t.turn-bytes.ensures in
-    (e.1.1 ∙ i.0, (omega (arith, i.1.0), again i.1.1 (on l) (rw c.before.pushed.given.1 at e.0) e.1.0))
+    let i = c.loop-c.invariant in
+    let e = c.turn_bytes-turned.ensures in
+    (e.1.1 ∙ i.0, (omega (arith, i.1.0), again i.1.1 (on c.before.before.before.before.before.before.before) (rw c.in-On.is at e.0) e.1.0))
 
-same_length : tie.Need-same-length invariant-loop decreases-loop
-same_length c = omega (arith, c.before.before.before.before.before.before.before.before.before.before.before.before.loop.invariant.1.0)
+same_length : tie.Need-shape_of-queue-in-Stopped invariant-loop decreases-loop
+same_length c = omega (arith, c.loop-c.invariant.1.0)
 
-returns : tie.Need-returns invariant-loop decreases-loop
+returns : tie.Need-returns-in-Stopped invariant-loop decreases-loop
 returns c =
-    let t = c.before.before.before.before.before in
-    let l = t.before.before.before.before in
-    let i = l.before.before.before.loop.invariant in
-    let e = t.turn-bytes.ensures in
-    (rw c.enum-told2.given.1 (stopped i.1.1 (on l) (rw c.enum-told2.given.1 at e.0) refl), e.1.1 ∙ i.0)
+    let i = c.loop-c.invariant in
+    let e = c.turn_bytes-turned.ensures in
+    (rw c.in-Stopped.is (stopped i.1.1 (on c.before.before.before.before.before.before.before) (rw c.in-Stopped.is at e.0) refl), e.1.1 ∙ i.0)
 
-finish-bytes-requires : tie.Need-finish-bytes-requires invariant-loop decreases-loop
+finish-bytes-requires : tie.Need-finish_bytes-requires invariant-loop decreases-loop
 finish-bytes-requires c κs =
-    let l = c.before.before in
-    let h = l.before.before.before in
-    finish_asks h.loop.invariant.1.1 (none l) (entry h).requires
+    finish_asks c.loop-c.invariant.1.1 (none c.before.before) c.requires
 
-same-length-2 : tie.Need-same-length-2 invariant-loop decreases-loop
-same-length-2 c = omega (arith, c.before.before.before.before.before.before.before.before.loop.invariant.1.0)
+same-length-2 : tie.Need-shape_of-queue invariant-loop decreases-loop
+same-length-2 c = omega (arith, c.loop-c.invariant.1.0)
 
-returns-2 : tie.Need-returns-2 invariant-loop decreases-loop
+returns-2 : tie.Need-returns invariant-loop decreases-loop
 returns-2 c =
-    let f = c.before.before in
-    let l = f.before.before.before in
-    let i = l.before.before.before.loop.invariant in
-    (ended i.1.1 (none l) f.finish_bytes.ensures.0, f.finish_bytes.ensures.1 ∙ i.0)
+    let i = c.loop-c.invariant in
+    (ended i.1.1 (none c.before.before.before.before.before) c.finish_bytes.ensures.0, c.finish_bytes.ensures.1 ∙ i.0)
 
-pub run-write-spec : {M : Type 1} → statement M
-run-write-spec =
+pub run_write_spec : {M : Type 1} → statement M
+run_write_spec =
     tie.close
     (tie.spec
     invariant-loop

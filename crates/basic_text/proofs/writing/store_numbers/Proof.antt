@@ -11,21 +11,19 @@ use borrow.Author.Rules.{rules}
 use Rattle.basic_text.proofs.writing.store_numbers.Statement.{statement}
 use Rattle.basic_text.proofs.writing.store_numbers.Tie as tie
 
-write-numbers-requires : tie.Need-write-numbers-requires
+write-numbers-requires : tie.Need-write_numbers-requires
 write-numbers-requires c κs =
-    let s = c.before.before.before in
-    (s.requires.0, omega (arith, s.requires.1, length_numbers s.args.queue.now))
+    (c.requires.0, omega (arith, c.requires.1, length_numbers c.args.queue.now))
 
 returns : tie.Need-returns
 returns c =
-    let s = c.before.before.before.before.before.before in
-    let a = s.args in
-    let e = c.before.before.write-numbers.ensures in
-    let fits = take_fits a.k a.n a.from.now _ s.requires.0 s.requires.1 in
-    let wide : Wide a.from.now = λ i. omega (arith, c.before.before.before.before.shared-slice-known.given i) in (
+    let a = c.args in
+    let e = c.write_numbers.ensures in
+    let fits = take_fits a.k a.n a.from.now _ c.requires.0 c.requires.1 in
+    let wide : Wide a.from.now = λ i. omega (arith, c.shared_slice_known-1.given i) in (
       ap numbers_of e ∙ numbers_sets (take a.n a.from.now) a.queue.now a.k (take_wide a.n a.from.now wide) fits,
       ap tail e ∙ tail_sets (take a.n a.from.now) a.queue.now a.k fits,
     )
 
-pub store-numbers-spec : {M : Type 1} → statement M
-store-numbers-spec = tie.close (tie.spec write-numbers-requires (λ c. search rules) returns)
+pub store_numbers_spec : {M : Type 1} → statement M
+store_numbers_spec = tie.close (tie.spec write-numbers-requires (λ c. search rules) returns)

@@ -17,77 +17,69 @@ use Rattle.basic_text.proofs.writing.write.Statement.{statement}
 use Rattle.basic_text.proofs.writing.write.Tie as tie
 
 -- what refuses before the steps is known from here on
-abbrev entry : tie.After-write-refusal → tie.Start
-entry r = r.before.before.before.before.before.before
-
-refusal : (r : tie.After-write-refusal) →
-    let a = (entry r).args in
-    r.write-refusal.result ≡ write_bytes_refusal a.w a.page.now a.bytes.now (length (numbers_of a.queue.now))
+refusal : (r : tie.After-write_refusal-refusal) →
+    let a = r.args in
+    r.write_refusal-refusal.result ≡ write_bytes_refusal a.w a.page.now a.bytes.now (length (numbers_of a.queue.now))
 refusal r =
-    rw (r.before.bytes-refusal.ensures, r.before.before.valid-prefix.ensures, ← length_numbers (entry r).args.queue.now) at r.write-refusal.ensures
+    rw (r.bytes_refusal-values.ensures, r.valid_prefix-prefix.ensures, ← length_numbers r.args.queue.now) at r.write_refusal-refusal.ensures
 
-none : (e : tie.Else1) → e.before.write-refusal.result ≡ 0
-none e = omega (arith, e.if1.false)
+none : (e : tie.Else-refusal-ne0) → e.write_refusal-refusal.result ≡ 0
+none e = omega (arith, e.if-refusal-ne0.false)
 
-through : (e : tie.Else1) →
-    let a = (entry e.before).args in
+through : (e : tie.Else-refusal-ne0) →
+    let a = e.args in
     Through a.w a.page.now (length (chars_of a.bytes.now)) (length (numbers_of a.queue.now))
 through e = let_through _ _ _ _ _ _ (refusal e.before) (none e)
 
 -- how many bytes the prefix has
-prefix : (r : tie.After-write-refusal) → r.before.before.valid-prefix.result.bytes ≡ length (encode_all (chars_of (entry r).args.bytes.now))
-prefix r = ap (λ (q : Prefix). q.bytes) r.before.before.valid-prefix.ensures
+prefix : (r : tie.After-write_refusal-refusal) → r.valid_prefix-prefix.result.bytes ≡ length (encode_all (chars_of r.args.bytes.now))
+prefix r = ap (λ (q : Prefix). q.bytes) r.valid_prefix-prefix.ensures
 
-returns : tie.Need-returns
+returns : tie.Need-returns-then-refusal-ne0
 returns c =
-    let r = c.before.before.before in
-    let a = (entry r).args in
+    let a = c.args in
     let w = a.w in
     let bytes = a.bytes.now in
     let queue = a.queue.now in
     let out = numbers_of queue in
     let t = c.taking.ensures in
     let is =
-    taken c.taking.result c.before.refused-write.result _ out bytes t.0 t.1.0 t.1.1 (prefix r)
-    ∙ ap (taking bytes) (refused_anywhere c.before.refused-write.result w r.write-refusal.result out c.before.refused-write.ensures)
-    ∙ bytes_refused w a.page.now bytes out _ (refusal r) (omega (arith, c.before.before.if1.true)) in
-    let small : Bytes queue = λ i. omega (arith, c.before.before.before.before.before.before.slice-known.given i) in
+    taken c.taking.result c.refused_write.result _ out bytes t.0 t.1.0 t.1.1 (prefix c.before.before.before)
+    ∙ ap (taking bytes) (refused_anywhere c.refused_write.result w c.write_refusal-refusal.result out c.refused_write.ensures)
+    ∙ bytes_refused w a.page.now bytes out _ (refusal c.before.before.before) (omega (arith, c.if-refusal-ne0.true)) in
+    let small : Bytes queue = λ i. omega (arith, c.slice_known-1.given i) in
     (is, sym (with_all queue small) ∙ ap (λ (o : BytesOutcome). sets queue 0 (bytes_of o.outcome.places)) is)
 
-run-write-requires : tie.Need-run-write-requires
+run-write-requires : tie.Need-run_write-pushed-requires
 run-write-requires c κs =
-    let e = c.before.before.before.before in
-    let a = (entry e.before).args in
-    place_asks a.w _ c.before.before.place_of.ensures a.page.now (chars_of a.bytes.now) (length (numbers_of a.queue.now)) (through e)
+    let a = c.args in
+    place_asks a.w _ c.place_of.ensures a.page.now (chars_of a.bytes.now) (length (numbers_of a.queue.now)) (through c.before.before.before.before)
 
-end-write-requires : tie.Need-end-write-requires
-end-write-requires c κs = (through c.before.before.before.before.before.before.before.before.before).page
+end-write-requires : tie.Need-end_write-written-requires
+end-write-requires c κs = (through c.before.before.before.before.before.before.before.before).page
 
-returns-2 : tie.Need-returns-2
+returns-2 : tie.Need-returns
 returns-2 c =
-    let r = c.before.before.before.before.before.before in
-    let b = r.before.before.before in
-    let e = b.before.before in
-    let a = (entry e.before).args in
+    let a = c.args in
     let w = a.w in
     let p = a.page.now in
     let bytes = a.bytes.now in
     let queue = a.queue.now in
     let out = numbers_of queue in
-    let x = r.run-write.result in
-    let escape = r.run-write.new.1.1.1.1.0 in
-    let after = r.run-write.new.1.1.1.1.1.0 in
-    let t = c.taking2.ensures in
+    let x = c.run_write-pushed.result in
+    let escape = c.run_write-pushed.new.escape in
+    let after = c.run_write-pushed.new.queue in
+    let t = c.taking-2.ensures in
     let written =
-    end_anywhere p w.mode w.expect_starter c.before.end-write.result x escape _ c.before.end-write.ensures (numbers_of after) c.before.before.first_number.ensures
-    ∙ place_ends w _ b.place_of.ensures p (chars_of bytes) x escape (numbers_of after) out r.run-write.ensures.0 in
+    end_anywhere p w.mode w.expect_starter c.end_write-written.result x escape _ c.end_write-written.ensures (numbers_of after) c.first_number-first.ensures
+    ∙ place_ends w _ c.place_of.ensures p (chars_of bytes) x escape (numbers_of after) out c.run_write-pushed.ensures.0 in
     let is =
-    taken c.taking2.result c.before.end-write.result _ (numbers_of after) bytes t.0 t.1.0 t.1.1 (prefix e.before)
+    taken c.taking-2.result c.end_write-written.result _ (numbers_of after) bytes t.0 t.1.0 t.1.1 (prefix c.before.before.before.before.before.before.before.before.before.before.before)
     ∙ ap (taking bytes) written
-    ∙ bytes_written w p bytes out _ (refusal e.before) (none e) in
-    let small : Bytes after = λ i. omega (arith, c.before.before.before.before.slice-known2.given i) in
-    let same : length after ≡ length queue = omega (arith, c.before.before.before.before.before.queue.given) in
-    (is, with_tail after queue small same r.run-write.ensures.1 ∙ ap (λ (o : BytesOutcome). sets queue 0 (bytes_of o.outcome.places)) is)
+    ∙ bytes_written w p bytes out _ (refusal c.before.before.before.before.before.before.before.before.before.before.before) (none c.before.before.before.before.before.before.before.before.before.before) in
+    let small : Bytes after = λ i. omega (arith, c.slice_known-2-1.given i) in
+    let same : length after ≡ length queue = omega (arith, c.queue-1.given) in
+    (is, with_tail after queue small same c.run_write-pushed.ensures.1 ∙ ap (λ (o : BytesOutcome). sets queue 0 (bytes_of o.outcome.places)) is)
 
 pub write_spec : {M : Type 1} → statement M
 write_spec =

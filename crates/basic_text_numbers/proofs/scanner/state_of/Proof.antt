@@ -3,8 +3,8 @@ use Rattle.common.proofs.Kit.{tests}
 use Rattle.basic_text_numbers.proofs.scanner.state_of.Statement.{statement}
 use Rattle.basic_text_numbers.proofs.scanner.state_of.Tie as tie
 
-pub state-of-spec : {M : Type 1} → statement M
-state-of-spec =
+pub state_of_spec : {M : Type 1} → statement M
+state_of_spec =
     tie.close
     (tie.spec
     (λ c. search tests depth 12)

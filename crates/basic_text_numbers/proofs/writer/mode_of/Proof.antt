@@ -3,8 +3,8 @@ use Rattle.common.proofs.Kit.{tests}
 use Rattle.basic_text_numbers.proofs.writer.mode_of.Statement.{statement}
 use Rattle.basic_text_numbers.proofs.writer.mode_of.Tie as tie
 
-pub mode-of-spec : {M : Type 1} → statement M
-mode-of-spec =
+pub mode_of_spec : {M : Type 1} → statement M
+mode_of_spec =
     tie.close
     (tie.spec
     (λ c. search tests depth 12)

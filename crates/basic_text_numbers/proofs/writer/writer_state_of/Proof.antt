@@ -3,8 +3,8 @@ use Rattle.common.proofs.Kit.{tests}
 use Rattle.basic_text_numbers.proofs.writer.writer_state_of.Statement.{statement}
 use Rattle.basic_text_numbers.proofs.writer.writer_state_of.Tie as tie
 
-pub writer-state-of-spec : {M : Type 1} → statement M
-writer-state-of-spec =
+pub writer_state_of_spec : {M : Type 1} → statement M
+writer_state_of_spec =
     tie.close
     (tie.spec
     (λ c. search tests depth 12)

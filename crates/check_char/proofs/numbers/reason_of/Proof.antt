@@ -3,8 +3,8 @@ use borrow.Author.Rules.{rules}
 use Rattle.check_char.proofs.numbers.reason_of.Statement.{statement}
 use Rattle.check_char.proofs.numbers.reason_of.Tie as tie
 
-pub reason-of-spec : {M : Type 1} → statement M
-reason-of-spec =
+pub reason_of_spec : {M : Type 1} → statement M
+reason_of_spec =
     tie.close
     (tie.spec
     (λ c. search rules)
@@ -38,19 +38,19 @@ reason-of-spec =
     (λ c. search rules)
     (λ c κs. search rules)
     (λ c. search rules)
-    (λ c. simp (c.bare.ensures, c.before.enum_told.given.1))
-    (λ c. simp (c.naming.ensures, c.before.before.e.given.1))
-    (λ c. simp (c.naming2.ensures, c.before.before.e2.given.1))
-    (λ c. simp (c.bare2.ensures, c.before.enum-told2.given.1))
-    (λ c. simp (c.bare3.ensures, c.before.enum-told3.given.1))
-    (λ c. simp (c.bare4.ensures, c.before.enum-told4.given.1))
-    (λ c. simp (c.bare5.ensures, c.before.enum-told5.given.1))
-    (λ c. simp (c.bare6.ensures, c.before.enum-told6.given.1))
-    (λ c. simp (c.bare7.ensures, c.before.enum-told7.given.1))
-    (λ c. simp (c.bare8.ensures, c.before.enum-told8.given.1))
-    (λ c. simp (c.bare9.ensures, c.before.enum-told9.given.1))
-    (λ c. simp (c.bare10.ensures, c.before.enum-told10.given.1))
-    (λ c. simp (c.naming3.ensures, c.before.before.e3.given.1))
-    (λ c. simp (c.bare11.ensures, c.before.enum-told11.given.1))
-    (λ c. simp (c.bare12.ensures, c.before.enum-told12.given.1))
-    (λ c. simp c.before.e4.given.1))
+    (λ c. simp (c.bare.ensures, c.in-ColorEscapeSequence.is))
+    (λ c. simp (c.naming.ensures, c.in-ControlCode.is))
+    (λ c. simp (c.naming-in-DeprecatedFormatChar.ensures, c.in-DeprecatedFormatChar.is))
+    (λ c. simp (c.bare-in-Escape.ensures, c.in-Escape.is))
+    (λ c. simp (c.bare-in-BidiFormatChar.ensures, c.in-BidiFormatChar.is))
+    (λ c. simp (c.bare-in-Interlinear.ensures, c.in-Interlinear.is))
+    (λ c. simp (c.bare-in-LanguageTag.ensures, c.in-LanguageTag.is))
+    (λ c. simp (c.bare-in-LineSeparation.ensures, c.in-LineSeparation.is))
+    (λ c. simp (c.bare-in-NonChar.ensures, c.in-NonChar.is))
+    (λ c. simp (c.bare-in-ParaSeparation.ensures, c.in-ParaSeparation.is))
+    (λ c. simp (c.bare-in-UnneededBOM.ensures, c.in-UnneededBOM.is))
+    (λ c. simp (c.bare-in-OutOfBand.ensures, c.in-OutOfBand.is))
+    (λ c. simp (c.naming-in-Omit.ensures, c.in-Omit.is))
+    (λ c. simp (c.bare-in-Beyyal.ensures, c.in-Beyyal.is))
+    (λ c. simp (c.bare-in-UnrecognizedEscape.ensures, c.in-UnrecognizedEscape.is))
+    (λ c. simp c.in-Replacement.is))

@@ -12,27 +12,27 @@ use Rattle.command_bytes.proofs.Tallies.{tally_yes, tally_no, tally_past}
 use Rattle.command_bytes.proofs.counts.newlines.Statement.{statement}
 use Rattle.command_bytes.proofs.counts.newlines.Tie as tie
 
-abbrev invariant-loop : tie.invariant-loop
+abbrev invariant-loop : tie.invariant-loop-i
 invariant-loop bytes n₀ i₀ n i = (n + tally is_newline (drop i bytes) ≡ tally is_newline bytes) × (n ≤ i)
 
-abbrev decreases-loop : tie.decreases-loop
+abbrev decreases-loop : tie.decreases-loop-i
 decreases-loop bytes n₀ i₀ n i = length bytes - i
 
-loop-again : tie.Need-loop-preserved invariant-loop decreases-loop
+loop-again : tie.Need-loop-i-preserved invariant-loop decreases-loop
 loop-again c =
-    let l = c.before.before.before.before.args.bytes.now in
-    let i = c.before.before.before.loop.i in
-    let h = c.before.before.loop-test.true in
+    let l = c.args.bytes.now in
+    let i = c.loop-i.i in
+    let h = c.loop-i-test.true in
     ⊎_elim
-    (λ w. (omega (arith, tally_yes is_newline l i h (eq-eqb _ _ w.0.taken)), omega arith))
-    (λ w. (omega (arith, tally_no is_newline l i h (ne_eqb _ _ w.0.left)), omega arith))
-    c.if1.branch
+    (λ w. (omega (arith, tally_yes is_newline l i h (eq-eqb _ _ w.if-bytes-i-eq10.true)), omega arith))
+    (λ w. (omega (arith, tally_no is_newline l i h (ne_eqb _ _ w.if-bytes-i-eq10.false)), omega arith))
+    c.if-bytes-i-eq10.branch-raw
 
 returns : tie.Need-returns invariant-loop decreases-loop
-returns c = omega (arith, tally_past is_newline c.before.before.args.bytes.now c.before.loop.i c.loop-test.false)
+returns c = omega (arith, tally_past is_newline c.args.bytes.now c.loop-i.i c.loop-i-test.false)
 
-pub newlines-spec : {M : Type 1} → statement M
-newlines-spec =
+pub newlines_spec : {M : Type 1} → statement M
+newlines_spec =
     tie.close
     (tie.spec
     invariant-loop

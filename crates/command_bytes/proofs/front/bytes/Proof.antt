@@ -6,11 +6,11 @@ use lib.Seq.{take_all}
 use Rattle.command_bytes.proofs.front.bytes.Statement.{statement}
 use Rattle.command_bytes.proofs.front.bytes.Tie as tie
 
-returns : tie.Need-returns
+returns : tie.Need-returns-then-n-all
 returns c = simp sub-zero
 
-returns-2 : tie.Need-returns-2
-returns-2 c = sym (take_all _ _ c.if1.false)
+returns-2 : tie.Need-returns
+returns-2 c = sym (take_all _ _ c.if-n-all.false)
 
-pub bytes-spec : {M : Type 1} → statement M
-bytes-spec = tie.close (tie.spec (λ c. search rules) (λ c. search rules) (λ c. search rules) returns returns-2)
+pub bytes_spec : {M : Type 1} → statement M
+bytes_spec = tie.close (tie.spec (λ c. search rules) (λ c. search rules) (λ c. search rules) returns returns-2)

@@ -12,70 +12,47 @@ use Rattle.command_bytes.proofs.Words.{read_past, read_blank, read_bad, word_beg
 use Rattle.command_bytes.proofs.numbers.numbers.Statement.{statement}
 use Rattle.command_bytes.proofs.numbers.numbers.Tie as tie
 
-abbrev invariant-loop : tie.invariant-loop
+abbrev invariant-loop : tie.invariant-loop-i
 invariant-loop text out₀ n₀ at₀ value₀ inside₀ i₀ out n at value inside i =
     (read_from n at value inside out (drop i text) ≡ numbers_of text out₀) × ((length out ≡ length out₀) × (n ≤ i))
 
-abbrev decreases-loop : tie.decreases-loop
+abbrev decreases-loop : tie.decreases-loop-i
 decreases-loop text out₀ n₀ at₀ value₀ inside₀ i₀ out n at value inside i = length text - i
 
-loop-holds : tie.Need-loop-init invariant-loop decreases-loop
+loop-holds : tie.Need-loop-i-init invariant-loop decreases-loop
 unfolding numbers_of
-loop-holds c = (rw c.begin.ensures.1, search rules)
+loop-holds c = (rw c.begin-i.ensures.1, search rules)
 
-loop-again : tie.Need-loop-preserved invariant-loop decreases-loop
+loop-again : tie.Need-loop-i-preserved-then-is_blank invariant-loop decreases-loop
 loop-again c =
-    let b = c.before in
-    (sym (read_blank _ _ _ _ _ _ _ b.before.before.loop-test.true (sym b.is-blank.ensures ∙ c.if1.true)) ∙ b.before.before.before.loop.invariant.0, search rules)
+    (sym (read_blank _ _ _ _ _ _ _ c.loop-i-test.true (sym c.is_blank.ensures ∙ c.if-is_blank.true)) ∙ c.loop-i.invariant.0, search rules)
 
-returns : tie.Need-returns invariant-loop decreases-loop
+returns : tie.Need-returns-then-d-gt15 invariant-loop decreases-loop
 returns c =
-    let d = c.before in
-    let e = d.before in
-    let b = e.before in
-    sym (read_bad _ _ _ _ _ _ _ b.before.before.loop-test.true (sym b.is-blank.ensures ∙ e.if1.false) (rw d.digit.ensures at c.if2.true)) ∙ b.before.before.before.loop.invariant.0
+    sym (read_bad _ _ _ _ _ _ _ c.loop-i-test.true (sym c.is_blank.ensures ∙ c.if-is_blank.false) (rw c.digit-d.ensures at c.if-d-gt15.true)) ∙ c.loop-i.invariant.0
 
-returns-2 : tie.Need-returns-2 invariant-loop decreases-loop
+returns-2 : tie.Need-returns-then-out-at invariant-loop decreases-loop
 returns-2 c =
-    let j = c.before in
-    let g = j.before in
-    let d = g.before in
-    let e = d.before in
-    let b = e.before in
-    let t = b.before.before in
-    sym (word_many (⊎_elim (λ w. word_begins (not-true _ w.0.taken) w.1 w.2 w.3 w.4)
-    (λ w. word_goes (not-false _ w.0.left) w.1 w.2 w.3 w.4) j.if3.branch) _ _ _ t.loop-test.true (sym b.is-blank.ensures ∙ e.if1.false) (rw d.digit.ensures at g.if2.false) c.if4.true) ∙ t.before.loop.invariant.0
+    sym (word_many (⊎_elim (λ w. word_begins w.if-not-inside.true w.n-is w.at-is w.value-is w.inside-is)
+    (λ w. word_goes w.if-not-inside.false w.n-is w.at-is w.value-is w.inside-is) c.if-not-inside.branch-raw) _ _ _ c.loop-i-test.true (sym c.is_blank.ensures ∙ c.if-is_blank.false) (rw c.digit-d.ensures at c.if-d-gt15.false) c.if-out-at.true) ∙ c.loop-i.invariant.0
 
-returns-3 : tie.Need-returns-3 invariant-loop decreases-loop
+returns-3 : tie.Need-returns-then-value-gt268435455 invariant-loop decreases-loop
 returns-3 c =
-    let j = c.before.before in
-    let g = j.before in
-    let d = g.before in
-    let e = d.before in
-    let b = e.before in
-    let t = b.before.before in
-    sym (word_large (⊎_elim (λ w. word_begins (not-true _ w.0.taken) w.1 w.2 w.3 w.4)
-    (λ w. word_goes (not-false _ w.0.left) w.1 w.2 w.3 w.4) j.if3.branch) _ _ _ t.loop-test.true (sym b.is-blank.ensures ∙ e.if1.false) (rw d.digit.ensures at g.if2.false) c.before.if4.false c.if5.true) ∙ t.before.loop.invariant.0
+    sym (word_large (⊎_elim (λ w. word_begins w.if-not-inside.true w.n-is w.at-is w.value-is w.inside-is)
+    (λ w. word_goes w.if-not-inside.false w.n-is w.at-is w.value-is w.inside-is) c.if-not-inside.branch-raw) _ _ _ c.loop-i-test.true (sym c.is_blank.ensures ∙ c.if-is_blank.false) (rw c.digit-d.ensures at c.if-d-gt15.false) c.if-out-at.false c.if-value-gt268435455.true) ∙ c.loop-i.invariant.0
 
-loop-again-2 : tie.Need-loop-preserved-2 invariant-loop decreases-loop
-loop-again-2 c =
-    let j = c.before.before.before.before in
-    let g = j.before in
-    let d = g.before in
-    let e = d.before in
-    let b = e.before in
-    let t = b.before.before in
-    let x = c.before.before in (
-      sym (word_on (⊎_elim (λ w. word_begins (not-true _ w.0.taken) w.1 w.2 w.3 w.4)
-          (λ w. word_goes (not-false _ w.0.left) w.1 w.2 w.3 w.4) j.if3.branch) _ _ _ t.loop-test.true (sym b.is-blank.ensures ∙ e.if1.false) (rw d.digit.ensures at g.if2.false) x.before.if4.false x.if5.false _ d.digit.ensures) ∙ t.before.loop.invariant.0,
-      (simp length-set t.before.loop.invariant.1.0, ⊎_elim (λ w. omega arith) (λ w. omega arith) j.if3.branch),
-    )
+loop-again-2 : tie.Need-loop-i-preserved invariant-loop decreases-loop
+loop-again-2 c = (
+  sym (word_on (⊎_elim (λ w. word_begins w.if-not-inside.true w.n-is w.at-is w.value-is w.inside-is)
+      (λ w. word_goes w.if-not-inside.false w.n-is w.at-is w.value-is w.inside-is) c.if-not-inside.branch-raw) _ _ _ c.loop-i-test.true (sym c.is_blank.ensures ∙ c.if-is_blank.false) (rw c.digit-d.ensures at c.if-d-gt15.false) c.if-out-at.false c.if-value-gt268435455.false _ c.digit-d.ensures) ∙ c.loop-i.invariant.0,
+  (simp length-set c.loop-i.invariant.1.0, ⊎_elim (λ w. omega arith) (λ w. omega arith) c.if-not-inside.branch-raw),
+)
 
-returns-4 : tie.Need-returns-4 invariant-loop decreases-loop
-returns-4 c = sym (read_past _ _ _ _ _ _ _ c.loop-test.false) ∙ c.before.loop.invariant.0
+returns-4 : tie.Need-returns invariant-loop decreases-loop
+returns-4 c = sym (read_past _ _ _ _ _ _ _ c.loop-i-test.false) ∙ c.loop-i.invariant.0
 
-pub numbers-spec : {M : Type 1} → statement M
-numbers-spec =
+pub numbers_spec : {M : Type 1} → statement M
+numbers_spec =
     tie.close
     (tie.spec
     invariant-loop

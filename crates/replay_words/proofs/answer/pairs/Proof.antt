@@ -6,14 +6,14 @@ use borrow.Author.Rules.{rules}
 use Rattle.replay_words.proofs.answer.pairs.Statement.{statement}
 use Rattle.replay_words.proofs.answer.pairs.Tie as tie
 
-abbrev invariant-loop : tie.invariant-loop
+abbrev invariant-loop : tie.invariant-loop-i
 invariant-loop out₀ at bytes end₀ i₀ out end i = length out ≡ length out₀
 
-abbrev decreases-loop : tie.decreases-loop
+abbrev decreases-loop : tie.decreases-loop-i
 decreases-loop out₀ at bytes end₀ i₀ out end i = length bytes - i
 
-pub pairs-spec : {M : Type 1} → statement M
-pairs-spec =
+pub pairs_spec : {M : Type 1} → statement M
+pairs_spec =
     tie.close
     (tie.spec
     invariant-loop

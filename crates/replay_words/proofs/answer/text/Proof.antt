@@ -6,14 +6,14 @@ use borrow.Author.Rules.{rules}
 use Rattle.replay_words.proofs.answer.text.Statement.{statement}
 use Rattle.replay_words.proofs.answer.text.Tie as tie
 
-abbrev invariant-loop : tie.invariant-loop
+abbrev invariant-loop : tie.invariant-loop-i
 invariant-loop out₀ at bytes end₀ i₀ out end i = length out ≡ length out₀
 
-abbrev decreases-loop : tie.decreases-loop
+abbrev decreases-loop : tie.decreases-loop-i
 decreases-loop out₀ at bytes end₀ i₀ out end i = length bytes - i
 
-pub text-spec : {M : Type 1} → statement M
-text-spec =
+pub text_spec : {M : Type 1} → statement M
+text_spec =
     tie.close
     (tie.spec
     invariant-loop

@@ -9,23 +9,23 @@ use Rattle.replay_words.proofs.Places.{other, next, none}
 use Rattle.replay_words.proofs.blank.is_blank_bytes.Statement.{statement}
 use Rattle.replay_words.proofs.blank.is_blank_bytes.Tie as tie
 
-abbrev invariant-loop : tie.invariant-loop
+abbrev invariant-loop : tie.invariant-loop-i
 invariant-loop bytes k i₀ i = are_blank 0xee (drop i bytes) ≡ are_blank 0xee (drop k bytes)
 
-abbrev decreases-loop : tie.decreases-loop
+abbrev decreases-loop : tie.decreases-loop-i
 decreases-loop bytes k i₀ i = length bytes - i
 
-returns : tie.Need-returns invariant-loop decreases-loop
-returns c = sym (other 0xee _ _ c.before.before.loop-test.true c.if1.true) ∙ c.before.before.before.loop.invariant
+returns : tie.Need-returns-then-bytes-i invariant-loop decreases-loop
+returns c = sym (other 0xee _ _ c.loop-i-test.true c.if-bytes-i.true) ∙ c.loop-i.invariant
 
-loop-again : tie.Need-loop-preserved invariant-loop decreases-loop
-loop-again c = next 0xee _ _ c.before.before.loop-test.true c.if1.false ∙ c.before.before.before.loop.invariant
+loop-again : tie.Need-loop-i-preserved invariant-loop decreases-loop
+loop-again c = next 0xee _ _ c.loop-i-test.true c.if-bytes-i.false ∙ c.loop-i.invariant
 
-returns-2 : tie.Need-returns-2 invariant-loop decreases-loop
-returns-2 c = sym (none 0xee _ _ c.loop-test.false) ∙ c.before.loop.invariant
+returns-2 : tie.Need-returns invariant-loop decreases-loop
+returns-2 c = sym (none 0xee _ _ c.loop-i-test.false) ∙ c.loop-i.invariant
 
-pub is-blank-bytes-spec : {M : Type 1} → statement M
-is-blank-bytes-spec =
+pub is_blank_bytes_spec : {M : Type 1} → statement M
+is_blank_bytes_spec =
     tie.close
     (tie.spec
     invariant-loop

@@ -6,14 +6,14 @@ use borrow.Author.Rules.{rules}
 use Rattle.replay_words.proofs.blank.make_blank.Statement.{statement}
 use Rattle.replay_words.proofs.blank.make_blank.Tie as tie
 
-abbrev invariant-loop : tie.invariant-loop
+abbrev invariant-loop : tie.invariant-loop-i
 invariant-loop places₀ i₀ places i = length places ≡ length places₀
 
-abbrev decreases-loop : tie.decreases-loop
+abbrev decreases-loop : tie.decreases-loop-i
 decreases-loop places₀ i₀ places i = length places₀ - i
 
-pub make-blank-spec : {M : Type 1} → statement M
-make-blank-spec =
+pub make_blank_spec : {M : Type 1} → statement M
+make_blank_spec =
     tie.close
     (tie.spec
     invariant-loop

@@ -6,14 +6,14 @@ use borrow.Author.Rules.{rules}
 use Rattle.replay_words.proofs.blank.make_blank_bytes.Statement.{statement}
 use Rattle.replay_words.proofs.blank.make_blank_bytes.Tie as tie
 
-abbrev invariant-loop : tie.invariant-loop
+abbrev invariant-loop : tie.invariant-loop-i
 invariant-loop bytes₀ i₀ bytes i = length bytes ≡ length bytes₀
 
-abbrev decreases-loop : tie.decreases-loop
+abbrev decreases-loop : tie.decreases-loop-i
 decreases-loop bytes₀ i₀ bytes i = length bytes₀ - i
 
-pub make-blank-bytes-spec : {M : Type 1} → statement M
-make-blank-bytes-spec =
+pub make_blank_bytes_spec : {M : Type 1} → statement M
+make_blank_bytes_spec =
     tie.close
     (tie.spec
     invariant-loop

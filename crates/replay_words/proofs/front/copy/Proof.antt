@@ -6,10 +6,10 @@ use borrow.Author.Rules.{rules}
 use Rattle.replay_words.proofs.front.copy.Statement.{statement}
 use Rattle.replay_words.proofs.front.copy.Tie as tie
 
-abbrev invariant-loop : tie.invariant-loop
+abbrev invariant-loop : tie.invariant-loop-i
 invariant-loop from to₀ i₀ to i = length to ≡ length to₀
 
-abbrev decreases-loop : tie.decreases-loop
+abbrev decreases-loop : tie.decreases-loop-i
 decreases-loop from to₀ i₀ to i = length from - i
 
 pub copy_spec : {M : Type 1} → statement M

@@ -5,14 +5,14 @@ use borrow.Author.Rules.{rules}
 use Rattle.replay_words.proofs.words.number.Statement.{statement}
 use Rattle.replay_words.proofs.words.number.Tie as tie
 
-abbrev invariant-loop : tie.invariant-loop
+abbrev invariant-loop : tie.invariant-loop-i
 invariant-loop line from value₀ i₀ value i = Unit {0}
 
-abbrev decreases-loop : tie.decreases-loop
+abbrev decreases-loop : tie.decreases-loop-i
 decreases-loop line from value₀ i₀ value i = length line - i
 
-pub number-spec : {M : Type 1} → statement M
-number-spec =
+pub number_spec : {M : Type 1} → statement M
+number_spec =
     tie.close
     (tie.spec
     invariant-loop

@@ -7,14 +7,14 @@ use native.Mathlib.Omega.{arith}
 use Rattle.replay_words.proofs.words.numbers.Statement.{statement}
 use Rattle.replay_words.proofs.words.numbers.Tie as tie
 
-abbrev invariant-loop : tie.invariant-loop
+abbrev invariant-loop : tie.invariant-loop-at
 invariant-loop line place out₀ at₀ n₀ out at n = length out ≡ length out₀
 
-abbrev decreases-loop : tie.decreases-loop
+abbrev decreases-loop : tie.decreases-loop-at
 decreases-loop line place out₀ at₀ n₀ out at n = length out - n
 
-pub numbers-spec : {M : Type 1} → statement M
-numbers-spec =
+pub numbers_spec : {M : Type 1} → statement M
+numbers_spec =
     tie.close
     (tie.spec
     invariant-loop

@@ -6,14 +6,14 @@ use borrow.Author.Rules.{rules}
 use Rattle.replay_words.proofs.words.pairs.Statement.{statement}
 use Rattle.replay_words.proofs.words.pairs.Tie as tie
 
-abbrev invariant-loop : tie.invariant-loop
+abbrev invariant-loop : tie.invariant-loop-i
 invariant-loop line from out₀ n₀ i₀ out n i = length out ≡ length out₀
 
-abbrev decreases-loop : tie.decreases-loop
+abbrev decreases-loop : tie.decreases-loop-i
 decreases-loop line from out₀ n₀ i₀ out n i = length line - i
 
-pub pairs-spec : {M : Type 1} → statement M
-pairs-spec =
+pub pairs_spec : {M : Type 1} → statement M
+pairs_spec =
     tie.close
     (tie.spec
     invariant-loop

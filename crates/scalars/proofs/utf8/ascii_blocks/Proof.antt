@@ -2,34 +2,33 @@
 use Prim.Native.Nat.{◌-◌}
 use native.Mathlib.Omega.{arith}
 use borrow.Author.Rules.{rules}
-use borrow.Author.Tests.{not-false}
 use Rattle.scalars.specs.Inner.{AsciiTo}
 use Rattle.scalars.proofs.Ascii.{to_here, to_more}
 use Rattle.scalars.proofs.utf8.ascii_blocks.Statement.{statement}
 use Rattle.scalars.proofs.utf8.ascii_blocks.Tie as tie
 
-abbrev invariant-loop : tie.invariant-loop
+abbrev invariant-loop : tie.invariant-loop-i
 invariant-loop bytes from stop size i₀ i = AsciiTo bytes from stop i
 
-abbrev decreases-loop : tie.decreases-loop
+abbrev decreases-loop : tie.decreases-loop-i
 decreases-loop bytes from stop size i₀ i = stop - i
 
-loop-again : tie.Need-loop-preserved invariant-loop decreases-loop
+loop-again : tie.Need-loop-i-preserved invariant-loop decreases-loop
 loop-again c =
-    let l = c.before.before.before.loop.invariant in
-    to_more _ _ _ _ _ l (omega arith) (omega (arith, l.low)) (c.before.ascii-block.ensures (not-false _ c.if1.false))
+    let l = c.loop-i.invariant in
+    to_more _ _ _ _ _ l (omega arith) (omega (arith, l.low)) (c.ascii_block.ensures c.if-not-ascii_block.false)
 
-pub ascii-blocks-spec : {M : Type 1} → statement M
-ascii-blocks-spec =
+pub ascii_blocks_spec : {M : Type 1} → statement M
+ascii_blocks_spec =
     tie.close
     (tie.spec
     invariant-loop
     decreases-loop
-    (λ c. to_here _ _ _ c.before.requires.0.0)
+    (λ c. to_here _ _ _ c.requires.0.0)
     (λ c. search rules)
-    (λ c κs. omega (arith, c.before.loop.invariant.low))
-    (λ c. c.before.before.before.loop.invariant)
+    (λ c κs. omega (arith, c.loop-i.invariant.low))
+    (λ c. c.loop-i.invariant)
     (λ c. search rules)
-    (λ c. let l = c.before.before.before.loop.invariant.low in omega arith)
+    (λ c. let l = c.loop-i.invariant.low in omega arith)
     loop-again
-    (λ c. c.before.loop.invariant))
+    (λ c. c.loop-i.invariant))

@@ -6,8 +6,8 @@ use Rattle.scalars.proofs.utf8.ascii_end.Tie as tie
 
 returns : tie.Need-returns
 returns c =
-    to_both _ _ _ _ _ c.before.before.ascii-blocks.ensures
-    (to_both _ _ _ _ _ c.before.ascii-blocks2.ensures c.ascii-blocks3.ensures)
+    to_both _ _ _ _ _ c.ascii_blocks-a.ensures
+    (to_both _ _ _ _ _ c.ascii_blocks-b.ensures c.ascii_blocks.ensures)
 
-pub ascii-end-spec : {M : Type 1} → statement M
-ascii-end-spec = tie.close (tie.spec (λ c κs. search rules) (λ c κs. search rules) (λ c κs. search rules) returns)
+pub ascii_end_spec : {M : Type 1} → statement M
+ascii_end_spec = tie.close (tie.spec (λ c κs. search rules) (λ c κs. search rules) (λ c κs. search rules) returns)

@@ -8,31 +8,31 @@ use Rattle.common.proofs.Storing.{Storing, begin, again, ended}
 use Rattle.scalars.proofs.utf8.decode_ascii.Statement.{statement}
 use Rattle.scalars.proofs.utf8.decode_ascii.Tie as tie
 
-abbrev invariant-loop : tie.invariant-loop
+abbrev invariant-loop : tie.invariant-loop-j
 invariant-loop bytes from out₀ at stop end run j₀ out j = Storing run out₀ at out j
 
-abbrev decreases-loop : tie.decreases-loop
+abbrev decreases-loop : tie.decreases-loop-j
 decreases-loop bytes from out₀ at stop end run j₀ out j = length run - j
 
-part-run-end : tie.Need-slice-bounds-run-end invariant-loop decreases-loop
-part-run-end c = omega (arith, c.ascii-end.ensures.low)
+part-run-end : tie.Need-slice_bounds-run-end invariant-loop decreases-loop
+part-run-end c = omega (arith, c.ascii_end-end.ensures.low)
 
-loop-holds : tie.Need-loop-init invariant-loop decreases-loop
+loop-holds : tie.Need-loop-j-init invariant-loop decreases-loop
 loop-holds c =
-    let a = c.before.ascii-end.ensures in
+    let a = c.ascii_end-end.ensures in
     begin _ _ _ (simp length-take (omega (arith, a.begun, a.low)))
 
 returns : tie.Need-returns invariant-loop decreases-loop
 returns c =
-    let a = c.before.before.before.ascii-end.ensures in
+    let a = c.ascii_end-end.ensures in
     record {
       to = record { begun = a.begun; low = omega (arith, a.low); each = a.each };
       room = omega (arith, a.begun, a.low);
-      places = ended _ _ _ _ _ c.before.loop.invariant c.loop-test.false;
+      places = ended _ _ _ _ _ c.loop-j.invariant c.loop-j-test.false;
     }
 
-pub decode-ascii-spec : {M : Type 1} → statement M
-decode-ascii-spec =
+pub decode_ascii_spec : {M : Type 1} → statement M
+decode_ascii_spec =
     tie.close
     (tie.spec
     invariant-loop
@@ -42,17 +42,17 @@ decode-ascii-spec =
     (λ c κs. search rules)
     (λ c. search rules)
     (λ c κs. search rules)
-    (λ c. c.ascii-end.ensures.begun)
-    (λ c. c.ascii-end.ensures.begun)
+    (λ c. c.ascii_end-end.ensures.begun)
+    (λ c. c.ascii_end-end.ensures.begun)
     part-run-end
     loop-holds
     (λ c. search rules)
     (λ c κs. search rules)
     (λ c. search rules)
     (λ c. search rules)
-    (λ c. omega (arith, c.before.before.before.loop.invariant.room))
+    (λ c. omega (arith, c.loop-j.invariant.room))
     (λ c. search rules)
     (λ c. search rules)
-    (λ c. again _ _ _ _ _ c.before.before.before.loop.invariant _ c.before.before.loop-test.true c.wide.ensures)
-    (λ c. c.before.loop.invariant.same)
+    (λ c. again _ _ _ _ _ c.loop-j.invariant _ c.loop-j-test.true c.wide.ensures)
+    (λ c. c.loop-j.invariant.same)
     returns)

@@ -8,34 +8,29 @@ use Rattle.scalars.proofs.Rows.{length_encode, encode_done, encode_full, encode_
 use Rattle.scalars.proofs.utf8.encode_utf8.Statement.{statement}
 use Rattle.scalars.proofs.utf8.encode_utf8.Tie as tie
 
-write-utf8-requires : tie.Need-write-utf8-requires
+write-utf8-requires : tie.Need-write_utf8-requires
 write-utf8-requires c κs =
-    let d = c.before.before.before.before in
-    (sym d.before.is-char.ensures ∙ d.if1.true, omega (arith, c.before.before.len_utf8.ensures))
+    (sym c.is_char.ensures ∙ c.if-is_char.true, omega (arith, c.len_utf8.ensures))
 
-returns : tie.Need-returns
+returns : tie.Need-returns-then-len_utf8-buf
 returns c =
-    let w = c.before.before in
-    let d = w.before.before.before.before.before in
-    let a = d.before.before.before.args in
-    let done = encode_done a.c a.buf.now a.at (sym d.before.is-char.ensures ∙ d.if1.true) (omega (arith, w.before.before.before.len_utf8.ensures)) in
-    (ap (λ (n : ℕ). 0 ∷ n ∷ []) w.write-utf8.ensures.0 ∙ done.0, w.write-utf8.ensures.1 ∙ done.1)
+    let a = c.args in
+    let done = encode_done a.c a.buf.now a.at (sym c.is_char.ensures ∙ c.if-is_char.true) (omega (arith, c.len_utf8.ensures)) in
+    (ap (λ (n : ℕ). 0 ∷ n ∷ []) c.write_utf8.ensures.0 ∙ done.0, c.write_utf8.ensures.1 ∙ done.1)
 
-returns-2 : tie.Need-returns-2
+returns-2 : tie.Need-returns-else-len_utf8-buf
 returns-2 c =
-    let d = c.before.before.before in
-    encode_full _ _ _ (sym d.before.is-char.ensures ∙ d.if1.true) (omega (arith, c.before.len_utf8.ensures))
+    encode_full _ _ _ (sym c.is_char.ensures ∙ c.if-is_char.true) (omega (arith, c.len_utf8.ensures))
 
-returns-3 : tie.Need-returns-3
+returns-3 : tie.Need-returns-else-at-buf
 returns-3 c =
-    let d = c.before in
-    encode_full _ _ _ (sym d.before.is-char.ensures ∙ d.if1.true) (omega (arith, length_encode d.before.before.before.args.c))
+    encode_full _ _ _ (sym c.is_char.ensures ∙ c.if-is_char.true) (omega (arith, length_encode c.args.c))
 
-returns-4 : tie.Need-returns-4
-returns-4 c = encode_no _ _ _ (sym c.before.is-char.ensures ∙ c.if1.false)
+returns-4 : tie.Need-returns
+returns-4 c = encode_no _ _ _ (sym c.is_char.ensures ∙ c.if-is_char.false)
 
-pub encode-utf8-spec : {M : Type 1} → statement M
-encode-utf8-spec =
+pub encode_utf8_spec : {M : Type 1} → statement M
+encode_utf8_spec =
     tie.close
     (tie.spec
     (λ c κs. search rules)

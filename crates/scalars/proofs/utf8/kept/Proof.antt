@@ -4,13 +4,13 @@ use borrow.Author.Rules.{rules}
 use Rattle.scalars.proofs.utf8.kept.Statement.{statement}
 use Rattle.scalars.proofs.utf8.kept.Tie as tie
 
-returns : tie.Need-returns
+returns : tie.Need-returns-then-least-c
 unfolding kept_of
-returns c = simp (c.if1.true, ← c.before.is-char.ensures)
+returns c = simp (c.if-least-c.true, ← c.is_char.ensures)
 
-returns-2 : tie.Need-returns-2
+returns-2 : tie.Need-returns-else-least-c
 unfolding kept_of
-returns-2 c = simp (c.if1.false, ← c.before.is-char.ensures)
+returns-2 c = simp (c.if-least-c.false, ← c.is_char.ensures)
 
-pub kept-spec : {M : Type 1} → statement M
-kept-spec = tie.close (tie.spec (λ c κs. search rules) returns returns-2)
+pub kept_spec : {M : Type 1} → statement M
+kept_spec = tie.close (tie.spec (λ c κs. search rules) returns returns-2)

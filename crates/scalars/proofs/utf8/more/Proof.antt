@@ -12,31 +12,31 @@ use Rattle.common.proofs.Kit.{both_true}
 use Rattle.scalars.proofs.utf8.more.Statement.{statement}
 use Rattle.scalars.proofs.utf8.more.Tie as tie
 
-returns : tie.Need-returns
+returns : tie.Need-returns-then-bytes-i
 unfolding more_of continuation
 returns c =
-    let a = c.before.before.args in
+    let a = c.args in
     let past : length a.bytes.now ≤ a.i = omega arith in
     simp (get_or-eq_default {A = ℕ} a.bytes.now 0 past)
 
-sub-t13 : tie.Need-overflow-sub-t13
-sub-t13 c = leb-true _ _ (both_true _ _ c.if2.true).0
+sub-t13 : tie.Need-overflow_sub-result
+sub-t13 c = leb-true _ _ (both_true _ _ c.if-b.true).0
 
-add-t14 : tie.Need-overflow-add-t14
+add-t14 : tie.Need-overflow_add-result
 add-t14 c =
-    let b = c.before.wide.result in
-    omega (arith, leb-true b 0xBF (both_true (leb 0x80 b) (leb b 0xBF) c.if2.true).1)
+    let b = c.wide-b.result in
+    omega (arith, leb-true b 0xBF (both_true (leb 0x80 b) (leb b 0xBF) c.if-b.true).1)
 
-returns-2 : tie.Need-returns-2
+returns-2 : tie.Need-returns-then-b
 unfolding more_of continuation
-returns-2 c = rw (← c.before.wide.ensures) (simp c.if2.true)
+returns-2 c = rw (← c.wide-b.ensures) (simp c.if-b.true)
 
-returns-3 : tie.Need-returns-3
+returns-3 : tie.Need-returns-else-b
 unfolding more_of continuation
-returns-3 c = rw (← c.before.wide.ensures) (simp c.if2.false)
+returns-3 c = rw (← c.wide-b.ensures) (simp c.if-b.false)
 
-pub more-spec : {M : Type 1} → statement M
-more-spec =
+pub more_spec : {M : Type 1} → statement M
+more_spec =
     tie.close
     (tie.spec
     returns

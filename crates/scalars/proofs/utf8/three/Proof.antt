@@ -6,27 +6,24 @@ use Rattle.scalars.proofs.Steps.{more_is}
 use Rattle.scalars.proofs.utf8.three.Statement.{statement}
 use Rattle.scalars.proofs.utf8.three.Tie as tie
 
-returns : tie.Need-returns
-returns c = simp (sym c.before.before.more.ensures ∙ c.enum_told.given.1)
+returns : tie.Need-returns-in_default
+returns c = simp (sym c.more.ensures ∙ c.in_default.is)
 
 more-requires-2 : tie.Need-more-requires-2
 more-requires-2 c κs =
-    omega (arith, more_is _ _ _ _ (sym c.before.before.before.more.ensures ∙ c.before.v.given.1))
+    omega (arith, more_is _ _ _ _ (sym c.more.ensures ∙ c.in-Read.is))
 
-returns-2 : tie.Need-returns-2
+returns-2 : tie.Need-returns-in_default-more
 returns-2 c =
-    let d = c.before.before.before in
-    simp (sym d.before.before.before.more.ensures ∙ d.before.v.given.1, sym c.before.before.more2.ensures ∙ c.enum-told2.given.1)
+    simp (sym c.more.ensures ∙ c.in-Read.is, sym c.more-2.ensures ∙ c.in_default-more.is)
 
-returns-3 : tie.Need-returns-3
+returns-3 : tie.Need-returns
 returns-3 c =
-    let e = c.before in
-    let d = e.before.before.before.before in
     c.kept.ensures
-    ∙ simp (sym d.before.before.before.more.ensures ∙ d.before.v.given.1, sym e.before.before.before.more2.ensures ∙ e.before.w.given.1)
+    ∙ simp (sym c.more.ensures ∙ c.in-Read.is, sym c.more-2.ensures ∙ c.in-Read-more.is)
 
-pub three-spec : {M : Type 1} → statement M
-three-spec =
+pub three_spec : {M : Type 1} → statement M
+three_spec =
     tie.close
     (tie.spec
     (λ c. search rules)

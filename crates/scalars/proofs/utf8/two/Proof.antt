@@ -4,14 +4,14 @@ use borrow.Author.Rules.{rules}
 use Rattle.scalars.proofs.utf8.two.Statement.{statement}
 use Rattle.scalars.proofs.utf8.two.Tie as tie
 
-returns : tie.Need-returns
-returns c = simp (sym c.before.before.more.ensures ∙ c.enum_told.given.1)
+returns : tie.Need-returns-in_default
+returns c = simp (sym c.more.ensures ∙ c.in_default.is)
 
-returns-2 : tie.Need-returns-2
-returns-2 c = c.kept.ensures ∙ simp (sym c.before.before.before.before.more.ensures ∙ c.before.before.v.given.1)
+returns-2 : tie.Need-returns
+returns-2 c = c.kept.ensures ∙ simp (sym c.more.ensures ∙ c.in-Read.is)
 
-pub two-spec : {M : Type 1} → statement M
-two-spec =
+pub two_spec : {M : Type 1} → statement M
+two_spec =
     tie.close
     (tie.spec
     (λ c. search rules)

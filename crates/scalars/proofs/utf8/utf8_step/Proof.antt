@@ -5,39 +5,34 @@ use Rattle.scalars.proofs.Steps.{past_step, lead_step}
 use Rattle.scalars.proofs.utf8.utf8_step.Statement.{statement}
 use Rattle.scalars.proofs.utf8.utf8_step.Tie as tie
 
-returns : tie.Need-returns
-returns c = past_step _ _ c.if1.true
+returns : tie.Need-returns-then-bytes-at
+returns c = past_step _ _ c.if-bytes-at.true
 
-returns-2 : tie.Need-returns-2
-returns-2 c = rw (← lead_step _ _ _ c.before.before.before.if1.false c.before.wide.ensures) (search tests)
+returns-2 : tie.Need-returns-then-b-lt128
+returns-2 c = rw (← lead_step _ _ _ c.if-bytes-at.false c.wide-b.ensures) (search tests)
 
-returns-3 : tie.Need-returns-3
+returns-3 : tie.Need-returns-then-b-lt192
 returns-3 c =
-    let d = c.before.before.before in
-    rw (← lead_step _ _ _ d.before.before.if1.false d.wide.ensures) (search tests)
+    rw (← lead_step _ _ _ c.if-bytes-at.false c.wide-b.ensures) (search tests)
 
-returns-4 : tie.Need-returns-4
+returns-4 : tie.Need-returns-then-b-lt224
 returns-4 c =
-    let d = c.before.before.before.before in
-    rw (← lead_step _ _ _ d.before.before.if1.false d.wide.ensures) (search tests depth 10)
+    rw (← lead_step _ _ _ c.if-bytes-at.false c.wide-b.ensures) (search tests depth 10)
 
-returns-5 : tie.Need-returns-5
+returns-5 : tie.Need-returns-then-b-lt240
 returns-5 c =
-    let d = c.before.before.before.before in
-    rw (← lead_step _ _ _ d.before.before.if1.false d.wide.ensures) (search tests depth 10)
+    rw (← lead_step _ _ _ c.if-bytes-at.false c.wide-b.ensures) (search tests depth 10)
 
-returns-6 : tie.Need-returns-6
+returns-6 : tie.Need-returns-then-b-lt248
 returns-6 c =
-    let d = c.before.before.before.before.before in
-    rw (← lead_step _ _ _ d.before.before.if1.false d.wide.ensures) (search tests depth 10)
+    rw (← lead_step _ _ _ c.if-bytes-at.false c.wide-b.ensures) (search tests depth 10)
 
-returns-7 : tie.Need-returns-7
+returns-7 : tie.Need-returns
 returns-7 c =
-    let d = c.before.before.before.before in
-    rw (← lead_step _ _ _ d.before.before.if1.false d.wide.ensures) (search tests depth 10)
+    rw (← lead_step _ _ _ c.if-bytes-at.false c.wide-b.ensures) (search tests depth 10)
 
-pub utf8-step-spec : {M : Type 1} → statement M
-utf8-step-spec =
+pub utf8_step_spec : {M : Type 1} → statement M
+utf8_step_spec =
     tie.close
     (tie.spec
     returns

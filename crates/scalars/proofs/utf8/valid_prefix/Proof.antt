@@ -11,60 +11,53 @@ use Rattle.scalars.proofs.Ascii.{over}
 use Rattle.scalars.proofs.utf8.valid_prefix.Statement.{statement}
 use Rattle.scalars.proofs.utf8.valid_prefix.Tie as tie
 
-abbrev invariant-loop : tie.invariant-loop
+abbrev invariant-loop : tie.invariant-loop-c
 invariant-loop bytes chars₀ at₀ chars at = (out : List ℕ) × Decoding bytes bytes out chars at
 
-abbrev decreases-loop : tie.decreases-loop
+abbrev decreases-loop : tie.decreases-loop-c
 decreases-loop bytes chars₀ at₀ chars at = length bytes - at
 
-returns : tie.Need-returns invariant-loop decreases-loop
+returns : tie.Need-returns-in_default invariant-loop decreases-loop
 returns c =
-    decoding_all _ _ _ _ c.before.before.before.loop.invariant.1 (sym c.before.before.utf8-step.ensures ∙ c.enum_told.given.1)
+    decoding_all _ _ _ _ c.loop-c.invariant.1 (sym c.utf8_step.ensures ∙ c.in_default.is)
 
-add-chars : tie.Need-overflow-add-chars invariant-loop decreases-loop
+add-chars : tie.Need-overflow_add-chars invariant-loop decreases-loop
 add-chars c =
-    let d = c.before in
-    omega (arith, d.before.before.before.loop.invariant.1.low, step_on _ _ _ _ (sym d.before.before.utf8-step.ensures ∙ d.c.given.1))
+    omega (arith, c.loop-c.invariant.1.low, step_on _ _ _ _ (sym c.utf8_step.ensures ∙ c.in-Char.is))
 
-ascii-end-requires : tie.Need-ascii-end-requires invariant-loop decreases-loop
+ascii-end-requires : tie.Need-ascii_end-at-requires invariant-loop decreases-loop
 ascii-end-requires c κs =
-    let d = c.before.before in
-    ((step_on _ _ _ _ (sym d.before.before.utf8-step.ensures ∙ d.c.given.1)).1, omega arith)
+    ((step_on _ _ _ _ (sym c.utf8_step.ensures ∙ c.in-Char.is)).1, omega arith)
 
-add-chars-2 : tie.Need-overflow-add-chars-2 invariant-loop decreases-loop
+add-chars-2 : tie.Need-overflow_add-chars-then-c-lt128 invariant-loop decreases-loop
 add-chars-2 c =
-    let d = c.before.before.before in
-    let o = step_on _ _ _ _ (sym d.before.before.utf8-step.ensures ∙ d.c.given.1) in
-    omega (arith, d.before.before.before.loop.invariant.1.low, o.0, c.ascii-end.ensures.begun, c.ascii-end.ensures.low)
+    let o = step_on _ _ _ _ (sym c.utf8_step.ensures ∙ c.in-Char.is) in
+    omega (arith, c.loop-c.invariant.1.low, o.0, c.ascii_end-at.ensures.begun, c.ascii_end-at.ensures.low)
 
-loop-less : tie.Need-loop-smaller invariant-loop decreases-loop
+loop-less : tie.Need-loop-c-smaller-then-c-lt128 invariant-loop decreases-loop
 loop-less c =
-    let d = c.before.before.before in
-    let o = step_on _ _ _ _ (sym d.before.before.utf8-step.ensures ∙ d.c.given.1) in
-    omega (arith, o.0, c.ascii-end.ensures.begun, c.ascii-end.ensures.low)
+    let o = step_on _ _ _ _ (sym c.utf8_step.ensures ∙ c.in-Char.is) in
+    omega (arith, o.0, c.ascii_end-at.ensures.begun, c.ascii_end-at.ensures.low)
 
-loop-again : tie.Need-loop-preserved invariant-loop decreases-loop
+loop-again : tie.Need-loop-c-preserved-then-c-lt128 invariant-loop decreases-loop
 loop-again c =
-    let d = c.before.before.before in
-    let i = d.before.before.before.loop.invariant.1 in
-    let e = sym d.before.before.utf8-step.ensures ∙ d.c.given.1 in
-    let a = c.ascii-end.ensures in
+    let i = c.loop-c.invariant.1 in
+    let e = sym c.utf8_step.ensures ∙ c.in-Char.is in
+    let a = c.ascii_end-at.ensures in
     (_, over _ _ _ _ _ _ _ _ i e a (omega (arith, i.low, i.same, (step_on _ _ _ _ e).0, a.begun, a.low)))
 
-loop-less-2 : tie.Need-loop-smaller-2 invariant-loop decreases-loop
+loop-less-2 : tie.Need-loop-c-smaller invariant-loop decreases-loop
 loop-less-2 c =
-    let d = c.before.before in
-    omega (arith, step_on _ _ _ _ (sym d.before.before.utf8-step.ensures ∙ d.c.given.1))
+    omega (arith, step_on _ _ _ _ (sym c.utf8_step.ensures ∙ c.in-Char.is))
 
-loop-again-2 : tie.Need-loop-preserved-2 invariant-loop decreases-loop
+loop-again-2 : tie.Need-loop-c-preserved invariant-loop decreases-loop
 loop-again-2 c =
-    let d = c.before.before in
-    let i = d.before.before.before.loop.invariant.1 in
-    let e = sym d.before.before.utf8-step.ensures ∙ d.c.given.1 in
+    let i = c.loop-c.invariant.1 in
+    let e = sym c.utf8_step.ensures ∙ c.in-Char.is in
     (_, decoding_again _ _ _ _ _ _ _ i (omega (arith, i.low, i.same, step_on _ _ _ _ e)) e)
 
-pub valid-prefix-spec : {M : Type 1} → statement M
-valid-prefix-spec =
+pub valid_prefix_spec : {M : Type 1} → statement M
+valid_prefix_spec =
     tie.close
     (tie.spec
     invariant-loop
@@ -76,7 +69,7 @@ valid-prefix-spec =
     returns
     add-chars
     ascii-end-requires
-    (λ c. c.ascii-end.ensures.begun)
+    (λ c. c.ascii_end-at.ensures.begun)
     add-chars-2
     loop-less
     loop-again

@@ -5,8 +5,8 @@ use Rattle.stretch.proofs.Clear.{gap_clear}
 use Rattle.stretch.proofs.gaps.gap_of.Statement.{statement}
 use Rattle.stretch.proofs.gaps.gap_of.Tie as tie
 
-pub gap-of-spec : {M : Type 1} → statement M
-gap-of-spec =
+pub gap_of_spec : {M : Type 1} → statement M
+gap_of_spec =
     tie.close
     (tie.spec
     (λ c κs. search rules)

@@ -17,200 +17,152 @@ use Rattle.text_clean.proofs.Turns.{plain_room, plain_fits, plain_moves, line_ro
 use Rattle.text_clean.proofs.Cleaner.advance.Statement.{statement}
 use Rattle.text_clean.proofs.Cleaner.advance.Tie as tie
 
-abbrev entry : tie.After-is-nothing → tie.Start
-entry n = n.before.before.before.before.before
-
 -- nothing is pending
-nothing : (c : tie.Then1) → is_nothing (pending_of (entry c.before).args.self.pending) ≡ true
-nothing c = sym c.before.is-nothing.ensures ∙ c.if1.true
+nothing : (c : tie.Then-is_nothing) → is_nothing (pending_of c.args.self.pending) ≡ true
+nothing c = sym c.is_nothing.ensures ∙ c.if-is_nothing.true
 
 -- and the text is ready
-ready : (c : tie.Then2) →
-    let a = (entry c.before.before.before.before).args in
+ready : (c : tie.Then-is_ready) →
+    let a = c.args in
     ready_for a.self.text (get_or a.bytes.now a.i 0) ≡ true
-ready c = sym c.before.is-ready.ensures ∙ c.if2.true
+ready c = sym c.is_ready.ensures ∙ c.if-is_ready.true
 
 -- ---- a run of plain characters
-module _ (m : tie.Then3) where
-  abbrev run : tie.After-plain-run
-  run = m.before
-
-  abbrev first : tie.Then1
-  first = run.before.before.before.before
-
-  abbrev s : tie.Start
-  s = entry first.before
-
-  run_room : s.args.k + length (part s.args.i run.plain-run.result.at s.args.bytes.now) ≤ length s.args.out.now
+module _ (m : tie.Then-i-end) where
+  run_room : m.args.k + length (part m.args.i m.plain_run-run.result.at m.args.bytes.now) ≤ length m.args.out.now
   run_room =
-      plain_room s.args.page.now s.args.options s.args.lines (course_of s.args.self s.args.tally) s.args.bytes.now s.args.i
-      s.args.out.now s.args.k s.pre.1.0 (nothing first) (ready run.before) run.plain-run.result run.plain-run.ensures m.if3.taken
-      s.pre.1.1.1.0
+      plain_room m.args.page.now m.args.options m.args.lines (course_of m.args.self m.args.tally) m.args.bytes.now m.args.i
+      m.args.out.now m.args.k m.requires.1.0 (nothing m.before.before.before.before.before) (ready m.before.before) m.plain_run-run.result m.plain_run-run.ensures m.if-i-end.true
+      m.requires.1.1.1.0
 
   -- the place after it is a number of 64 bits
-  run_fits : s.args.k + (run.plain-run.result.at - s.args.i) < 18446744073709551616
+  run_fits : m.args.k + (m.plain_run-run.result.at - m.args.i) < 18446744073709551616
   run_fits =
       omega (
         arith,
         run_room,
-        part_length s.args.bytes.now s.args.i run.plain-run.result.at (omega (arith, m.if3.taken)) run.plain-run.ensures.low,
-        s.good,
+        part_length m.args.bytes.now m.args.i m.plain_run-run.result.at (omega (arith, m.if-i-end.true)) m.plain_run-run.ensures.low,
+        m.well_formed,
       )
 
 -- and where it leads
-module _ (c : tie.After-tally-read) where
-  abbrev filled : tie.After-copy-run
-  filled = c.before.before.before.before
-
-  abbrev m : tie.Then3
-  m = filled.before.before.before
-
+module _ (c : tie.After-tally_read-sofar) where
   abbrev moved : Moved
   moved =
       record {
-        at = (run m).plain-run.result.at;
-        written = (s m).args.k + ((run m).plain-run.result.at - (s m).args.i);
-        next = record { pending = NoBytes; text = c.before.passed.result };
-        tally = c.tally-read.result;
-        gap = (s m).args.gap;
+        at = c.plain_run-run.result.at;
+        written = c.args.k + (c.plain_run-run.result.at - c.args.i);
+        next = record { pending = NoBytes; text = c.passed-next.result };
+        tally = c.tally_read-sofar.result;
+        gap = c.args.gap;
       }
 
-  run-moves : Moves (s m).args.page.now (s m).args.options (s m).args.lines (course_of (s m).args.self (s m).args.tally) (s m).args.bytes.now
-      (s m).args.i (s m).args.out.now (s m).args.k moved filled.copy_run.last.1.0
+  run-moves : Moves c.args.page.now c.args.options c.args.lines (course_of c.args.self c.args.tally) c.args.bytes.now
+      c.args.i c.args.out.now c.args.k moved c.copy_run.new.out
   run-moves =
-      let a = (s m).args in
-      plain_moves a.page.now a.options a.lines (course_of a.self a.tally) a.bytes.now a.i a.out.now a.k (s m).pre.1.0
-      (nothing (first m)) (ready (run m).before) (run m).plain-run.result (run m).plain-run.ensures m.if3.taken
-      _ c.before.passed.ensures _ c.tally-read.ensures _ filled.copy_run.ensures _ (s m).pre.1.1.0
+      let a = c.args in
+      plain_moves a.page.now a.options a.lines (course_of a.self a.tally) a.bytes.now a.i a.out.now a.k c.requires.1.0
+      (nothing c.before.before.before.before.before.before.before.before.before.before.before.before) (ready c.before.before.before.before.before.before.before.before.before) c.plain_run-run.result c.plain_run-run.ensures c.if-i-end.true
+      _ c.passed-next.ensures _ c.tally_read-sofar.ensures _ c.copy_run.ensures _ c.requires.1.1.0
 
-  passed_is : moved.next ≡ record { pending = NoBytes; text = passed_text (s m).args.self.text (run m).plain-run.result.last }
-  passed_is = ap (λ (t : Text). record { pending = NoBytes; text = t }) c.before.passed.ensures
+  passed_is : moved.next ≡ record { pending = NoBytes; text = passed_text c.args.self.text c.plain_run-run.result.last }
+  passed_is = ap (λ (t : Text). record { pending = NoBytes; text = t }) c.passed-next.ensures
 
-tally-read-requires : tie.Need-tally-read-requires
+tally-read-requires : tie.Need-tally_read-sofar-requires
 tally-read-requires c κs =
-    let m = c.before.before.before.before.before.before in
-    let a = (s m).args in
-    plain_fits a.page.now a.options a.lines (course_of a.self a.tally) a.bytes.now a.i a.out.now a.k (s m).requires.1.0
-    (nothing (first m)) (ready (run m).before) (run m).plain-run.result (run m).plain-run.ensures m.if3.true (s m).requires.1.1.1.1
+    let a = c.args in
+    plain_fits a.page.now a.options a.lines (course_of a.self a.tally) a.bytes.now a.i a.out.now a.k c.requires.1.0
+    (nothing c.before.before.before.before.before.before.before.before.before.before.before) (ready c.before.before.before.before.before.before.before.before) c.plain_run-run.result c.plain_run-run.ensures c.if-i-end.true c.requires.1.1.1.1
 
-take-line-requires : tie.Need-take-line-requires
+take-line-requires : tie.Need-take_line-requires
 take-line-requires c κs =
-    let d = c.before in
-    let q = s (m d) in
-    let a = q.args in
-    behind_asks a.page.now a.options a.lines (course_of a.self a.tally) a.bytes.now a.i a.out.now a.k (moved d) _ (run-moves d)
-    a.self.text _ (passed_is d) q.pre.1.1.1.0 q.pre.1.1.1.1
+    let a = c.args in
+    behind_asks a.page.now a.options a.lines (course_of a.self a.tally) a.bytes.now a.i a.out.now a.k (moved c.before) _ (run-moves c.before)
+    a.self.text _ (passed_is c.before) c.requires.1.1.1.0 c.requires.1.1.1.1
 
-returns : tie.Need-returns
+returns : tie.Need-returns-then-i-end
 returns c =
-    let l = c.before.before in
-    let d = l.before.before in
-    let a = (s (m d)).args in
-    behind_moves a.page.now a.options a.lines (course_of a.self a.tally) a.bytes.now a.i a.out.now a.k (moved d) _ (run-moves d)
-    a.self.text _ (passed_is d) _ l.take_line.ensures.0 _ l.take_line.ensures.1
+    let a = (c).args in
+    behind_moves a.page.now a.options a.lines (course_of a.self a.tally) a.bytes.now a.i a.out.now a.k (moved c.before.before.before.before) _ (run-moves c.before.before.before.before)
+    a.self.text _ (passed_is c.before.before.before.before) _ c.take_line.ensures.0 _ c.take_line.ensures.1
 
 -- ---- a line end
-module _ (m : tie.Then4) where
-  abbrev end : tie.After-line-end
-  end = m.before
-
-  abbrev found : tie.Then2
-  found = end.before.before.before
-
-  abbrev start : tie.Start
-  start = entry found.before.before.before.before
-
-  end-room : start.args.k < length start.args.out.now
+module _ (m : tie.Then-width-gt0) where
+  end-room : m.args.k < length m.args.out.now
   end-room =
-      line_room start.args.page.now start.args.options start.args.lines (course_of start.args.self start.args.tally) start.args.bytes.now
-      start.args.i start.args.out.now start.args.k start.pre.1.0 (nothing found.before.before.before) (ready found)
-      end.line-end.result end.line-end.ensures m.if4.taken start.pre.1.1.1.0
+      line_room m.args.page.now m.args.options m.args.lines (course_of m.args.self m.args.tally) m.args.bytes.now
+      m.args.i m.args.out.now m.args.k m.requires.1.0 (nothing m.before.before.before.before.before.before.before) (ready m.before.before.before.before)
+      m.line_end-width.result m.line_end-width.ensures m.if-width-gt0.true m.requires.1.1.1.0
 
-  end_low : start.args.i + end.line-end.result ≤ length start.args.bytes.now
+  end_low : m.args.i + m.line_end-width.result ≤ length m.args.bytes.now
   end_low =
-      line_low start.args.page.now start.args.options start.args.lines (course_of start.args.self start.args.tally) start.args.bytes.now
-      start.args.i start.args.out.now start.args.k start.pre.1.0 (nothing found.before.before.before) (ready found)
-      end.line-end.result end.line-end.ensures m.if4.taken
+      line_low m.args.page.now m.args.options m.args.lines (course_of m.args.self m.args.tally) m.args.bytes.now
+      m.args.i m.args.out.now m.args.k m.requires.1.0 (nothing m.before.before.before.before.before.before.before) (ready m.before.before.before.before)
+      m.line_end-width.result m.line_end-width.ensures m.if-width-gt0.true
 
   -- the places after it are numbers of 64 bits
-  end_fits : start.args.i + end.line-end.result < 18446744073709551616
-  end_fits = omega (arith, end_low, start.good)
+  end_fits : m.args.i + m.line_end-width.result < 18446744073709551616
+  end_fits = omega (arith, end_low, m.well_formed)
 
-  place-fits : start.args.k + 1 < 18446744073709551616
-  place-fits = omega (arith, end-room, start.good)
+  place-fits : m.args.k + 1 < 18446744073709551616
+  place-fits = omega (arith, end-room, m.well_formed)
 
-tally-read-requires-2 : tie.Need-tally-read-requires-2
+tally-read-requires-2 : tie.Need-tally_read-requires
 tally-read-requires-2 c κs =
-    let m = c.before in
-    let s = start m in
-    let a = s.args in
-    line_fits a.page.now a.options a.lines (course_of a.self a.tally) a.bytes.now a.i a.out.now a.k s.pre.1.0
-    (nothing (found m).before.before.before) (ready (found m)) (end m).line-end.result (end m).line-end.ensures m.if4.true s.pre.1.1.1.1
+    let a = c.args in
+    line_fits a.page.now a.options a.lines (course_of a.self a.tally) a.bytes.now a.i a.out.now a.k c.requires.1.0
+    (nothing c.before.before.before.before.before.before.before.before) (ready c.before.before.before.before.before) c.line_end-width.result c.line_end-width.ensures c.if-width-gt0.true c.requires.1.1.1.1
 
-returns-2 : tie.Need-returns-2
+returns-2 : tie.Need-returns-then-width-gt0
 returns-2 c =
-    let m = c.before.before in
-    let s = start m in
-    let a = s.args in
-    line_moves a.page.now a.options a.lines (course_of a.self a.tally) a.bytes.now a.i a.out.now a.k s.pre.1.0
-    (nothing (found m).before.before.before) (ready (found m)) (end m).line-end.result (end m).line-end.ensures m.if4.true
-    _ c.before.ended.ensures _ c.tally-read2.ensures _ refl _ s.pre.1.1.0
+    let a = c.args in
+    line_moves a.page.now a.options a.lines (course_of a.self a.tally) a.bytes.now a.i a.out.now a.k c.requires.1.0
+    (nothing c.before.before.before.before.before.before.before.before.before) (ready c.before.before.before.before.before.before) c.line_end-width.result c.line_end-width.ensures c.if-width-gt0.true
+    _ c.ended-next.ensures _ c.tally_read.ensures _ refl _ c.requires.1.1.0
 
 -- ---- a character
-take-requires : tie.Need-take-requires
+take-requires : tie.Need-take-taken-requires
 take-requires c κs =
-    let m = c.before.before in
-    let u = m.before.before in
-    let y = u.before.before.before.before in
-    let s = entry y.before in
-    let a = s.args in (
-      s.pre.0,
-      char_asks a.page.now a.options a.lines (course_of a.self a.tally) a.bytes.now a.i a.out.now a.k s.pre.1.0
-          (nothing y) _ _ (sym u.utf8-step.ensures ∙ m.c.given.1) s.pre.1.1.1.0 s.pre.1.1.1.1,
+    let a = c.args in (
+      c.requires.0,
+      char_asks a.page.now a.options a.lines (course_of a.self a.tally) a.bytes.now a.i a.out.now a.k c.requires.1.0
+          (nothing c.before.before.before.before.before.before) _ _ (sym c.utf8_step.ensures ∙ c.in-Char.is) c.requires.1.1.1.0 c.requires.1.1.1.1,
     )
 
-next-gap-requires : tie.Need-next-gap-requires
-next-gap-requires c κs = (entry c.before.before.before.before.before.before.before.before.before.before.before.before.before.before).requires.1.1.0
+next-gap-requires : tie.Need-next_gap-near-requires
+next-gap-requires c κs = c.requires.1.1.0
 
-returns-3 : tie.Need-returns-3
+returns-3 : tie.Need-returns-in-Char
 returns-3 c =
-    let f = c.before.before.before.before.before in
-    let m = f.before.before.before in
-    let u = m.before.before in
-    let y = u.before.before.before.before in
-    let s = entry y.before in
-    let a = s.args in
-    char_moves a.page.now a.options a.lines (course_of a.self a.tally) a.bytes.now a.i a.out.now a.k s.pre.1.0
-    (nothing y) _ _ (sym u.utf8-step.ensures ∙ m.c.given.1) f.take.result _ f.take.ensures _ c.next-gap.ensures
+    let a = c.args in
+    char_moves a.page.now a.options a.lines (course_of a.self a.tally) a.bytes.now a.i a.out.now a.k c.requires.1.0
+    (nothing c.before.before.before.before.before.before.before.before.before.before.before.before) _ _ (sym c.utf8_step.ensures ∙ c.in-Char.is) c.take-taken.result _ c.take-taken.ensures _ c.next_gap-near.ensures
 
 -- ---- a byte
-take-byte-requires : tie.Need-take-byte-requires
+take-byte-requires : tie.Need-take_byte-ran-requires
 take-byte-requires c κs =
-    let s = entry c.before.before.before in
-    let a = s.args in (
-      s.pre.0,
+    let a = c.args in (
+      c.requires.0,
       (
-        byte_room a.page.now a.options a.lines (course_of a.self a.tally) a.bytes.now a.i a.out.now a.k s.pre.1.0 s.pre.1.1.1.0,
-        byte_fits a.page.now a.options a.lines (course_of a.self a.tally) a.bytes.now a.i a.out.now a.k s.pre.1.0 s.pre.1.1.1.1,
+        byte_room a.page.now a.options a.lines (course_of a.self a.tally) a.bytes.now a.i a.out.now a.k c.requires.1.0 c.requires.1.1.1.0,
+        byte_fits a.page.now a.options a.lines (course_of a.self a.tally) a.bytes.now a.i a.out.now a.k c.requires.1.0 c.requires.1.1.1.1,
       ),
     )
 
 next_fits : (s : tie.Start) → s.args.i + 1 < 18446744073709551616
-next_fits s = omega (arith, s.requires.1.0, s.well-formed)
+next_fits s = omega (arith, s.requires.1.0, s.well_formed)
 
-add-t58 : tie.Need-overflow-add-t58
-add-t58 c = record { fits = next_fits (entry c.before.before.before.before.before.before.before.before) }
+add-t58 : tie.Need-overflow_add-result-2
+add-t58 c = record { fits = next_fits c.before.before.before.before.before.before.before.before.before.before.before.before.before }
 
-returns-4 : tie.Need-returns-4
+returns-4 : tie.Need-returns
 returns-4 c =
-    let f = c.before.before.before.before in
-    let s = entry f.before.before.before.before in
-    let a = s.args in
-    byte_moves a.page.now a.options a.lines (course_of a.self a.tally) a.bytes.now a.i a.out.now a.k s.pre.1.0
-    _ s.pre.1.1.0 f.take-byte.result f.take-byte.ensures.0 _ f.take-byte.ensures.1
+    let a = c.args in
+    byte_moves a.page.now a.options a.lines (course_of a.self a.tally) a.bytes.now a.i a.out.now a.k c.requires.1.0
+    _ c.requires.1.1.0 c.take_byte-ran.result c.take_byte-ran.ensures.0 _ c.take_byte-ran.ensures.1
 
-pub advance-spec : {M : Type 1} → statement M
-advance-spec =
+pub advance_spec : {M : Type 1} → statement M
+advance_spec =
     tie.close
     (tie.spec
     (λ c κs. search rules)
@@ -224,7 +176,7 @@ advance-spec =
     (λ c κs. search rules)
     tally-read-requires
     (λ c. search rules)
-    (λ c. record { fits = run_fits (m c.before) })
+    (λ c. record { fits = run_fits c.before.before.before.before.before.before.before.before })
     take-line-requires
     (λ c. search rules)
     returns

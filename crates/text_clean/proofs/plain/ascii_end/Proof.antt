@@ -10,32 +10,29 @@ use Rattle.text_clean.proofs.plain.Runs.{to_here, to_more, one_byte}
 use Rattle.text_clean.proofs.plain.ascii_end.Statement.{statement}
 use Rattle.text_clean.proofs.plain.ascii_end.Tie as tie
 
-abbrev invariant-loop : tie.invariant-loop
+abbrev invariant-loop : tie.invariant-loop-i
 invariant-loop bytes from i₀ i = PlainTo bytes from i
 
-abbrev decreases-loop : tie.decreases-loop
+abbrev decreases-loop : tie.decreases-loop-i
 decreases-loop bytes from i₀ i = length bytes - i
 
-abbrev invariant-loop2 : tie.invariant-loop2
+abbrev invariant-loop2 : tie.invariant-loop-i-2
 invariant-loop2 bytes from i₀ i = PlainTo bytes from i
 
-abbrev decreases-loop2 : tie.decreases-loop2
+abbrev decreases-loop2 : tie.decreases-loop-i-2
 decreases-loop2 bytes from i₀ i = length bytes - i
 
-loop-again : tie.Need-loop-preserved invariant-loop decreases-loop invariant-loop2 decreases-loop2
+loop-again : tie.Need-loop-i-preserved invariant-loop decreases-loop invariant-loop2 decreases-loop2
 loop-again c =
-    let l = c.before.before.before in
-    to_more _ _ _ _ l.loop.invariant (omega arith) (omega (arith, l.loop.invariant.low)) (c.before.block.ensures (not-false _ c.if3.false))
+    to_more _ _ _ _ c.loop-i.invariant (omega arith) (omega (arith, c.loop-i.invariant.low)) (c.block.ensures c.if-not-block.false)
 
-loop2-again : tie.Need-loop2-preserved invariant-loop decreases-loop invariant-loop2 decreases-loop2
+loop2-again : tie.Need-loop-i-2-preserved invariant-loop decreases-loop invariant-loop2 decreases-loop2
 loop2-again c =
-    let p = c.before in
-    let l = p.before.before.before in
-    let bs = l.before.before.before.before.before.args.bytes.now in
-    to_more _ _ _ _ l.loop2.invariant (omega arith) (omega arith) (one_byte bs l.loop2.i (sym p.is_plain.ensures ∙ not-false _ c.if4.false))
+    let bs = c.args.bytes.now in
+    to_more _ _ _ _ c.loop-i-2.invariant (omega arith) (omega arith) (one_byte bs c.loop-i-2.i (sym c.is_plain.ensures ∙ c.if-not-is_plain.false))
 
-pub ascii-end-spec : {M : Type 1} → statement M
-ascii-end-spec =
+pub ascii_end_spec : {M : Type 1} → statement M
+ascii_end_spec =
     tie.close
     (tie.spec
     invariant-loop
@@ -43,18 +40,18 @@ ascii-end-spec =
     invariant-loop2
     decreases-loop2
     (λ c. search rules)
-    (λ c. to_here _ _ c.before.before.before.before.requires)
-    (λ c. to_here _ _ c.before.before.requires)
-    (λ c. omega (arith, c.loop.invariant.low))
-    (λ c κs. omega (arith, c.before.loop.invariant.low))
-    (λ c. omega (arith, c.before.before.before.loop.invariant.low))
-    (λ c. omega (arith, c.before.before.before.loop.invariant.low))
+    (λ c. to_here _ _ c.requires)
+    (λ c. to_here _ _ c.requires)
+    (λ c. omega (arith, c.loop-i.invariant.low))
+    (λ c κs. omega (arith, c.loop-i.invariant.low))
+    (λ c. omega (arith, c.loop-i.invariant.low))
+    (λ c. omega (arith, c.loop-i.invariant.low))
     loop-again
-    (λ c. c.before.loop.invariant)
+    (λ c. c.loop-i.invariant)
     (λ c. search rules)
     (λ c κs. search rules)
-    (λ c. c.before.before.before.before.loop2.invariant)
+    (λ c. c.loop-i-2.invariant)
     (λ c. search rules)
     (λ c. search rules)
     loop2-again
-    (λ c. c.before.loop2.invariant))
+    (λ c. c.loop-i-2.invariant))

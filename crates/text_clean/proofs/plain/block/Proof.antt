@@ -32,16 +32,15 @@ module _ (bs : List ℕ) (at : ℕ) where
   ended : (good : Bool) (j : ℕ) → Going bs at good j → 16 ≤ j → good ≡ true → PlainBytes bs at (at + 16)
   ended good j g l t = let e : j ≡ 16 = omega (arith, g.low) in rw e at (g.each t)
 
-abbrev invariant-loop : tie.invariant-loop
+abbrev invariant-loop : tie.invariant-loop-j
 invariant-loop bytes at good₀ j₀ good j = Going bytes at good j
 
-abbrev decreases-loop : tie.decreases-loop
+abbrev decreases-loop : tie.decreases-loop-j
 decreases-loop bytes at good₀ j₀ good j = 16 - j
 
-loop-again : tie.Need-loop-preserved invariant-loop decreases-loop
+loop-again : tie.Need-loop-j-preserved invariant-loop decreases-loop
 loop-again c =
-    let l = c.before.before.before in
-    again _ _ _ _ l.loop.invariant c.before.before.loop-test.true _ c.is_plain.ensures
+    again _ _ _ _ c.loop-j.invariant c.loop-j-test.true _ c.is_plain-good.ensures
 
 pub block_spec : {M : Type 1} → statement M
 block_spec =
@@ -56,4 +55,4 @@ block_spec =
     (λ c. search rules)
     (λ c. search rules)
     loop-again
-    (λ c. ended _ _ _ _ c.before.loop.invariant c.loop-test.false))
+    (λ c. ended _ _ _ _ c.loop-j.invariant c.loop-j-test.false))

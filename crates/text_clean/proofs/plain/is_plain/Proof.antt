@@ -8,5 +8,5 @@ returns : tie.Need-returns
 unfolding plain_byte
 returns c = refl
 
-pub is-plain-spec : {M : Type 1} → statement M
-is-plain-spec = tie.close (tie.spec returns)
+pub is_plain_spec : {M : Type 1} → statement M
+is_plain_spec = tie.close (tie.spec returns)

@@ -51,38 +51,28 @@ module _ (bs : List ℕ) (i : ℕ) where
         last true = refl
         last false = refl
 
-read : tie.Need-shared-slice-read-if3
+read : tie.Need-bounds-bytes-i-then-bytes-i
 read c =
-    let t = c.before in
-    let s = t.before.before.before.before in
-    more s.args.bytes.now s.args.i t.if2.true
+    more c.args.bytes.now c.args.i c.if-bytes-i.true
 
-returns-2 : tie.Need-returns-2
+returns-2 : tie.Need-returns-then-bytes-i-eq10-2
 returns-2 c =
-    let t = c.before.before in
-    let o = t.before.before in
-    let s = o.before.before in
-    both s.args.bytes.now s.args.i o.if1.false t.if2.true c.if3.true
+    both c.args.bytes.now c.args.i c.if-bytes-i-eq10.false c.if-bytes-i.true c.if-bytes-i-eq10-2.true
 
-returns-3 : tie.Need-returns-3
+returns-3 : tie.Need-returns-else-bytes-i-eq10-2
 returns-3 c =
-    let t = c.before.before in
-    let o = t.before.before in
-    let s = o.before.before in
-    alone s.args.bytes.now s.args.i o.if1.false t.if2.true c.if3.false
+    alone c.args.bytes.now c.args.i c.if-bytes-i-eq10.false c.if-bytes-i.true c.if-bytes-i-eq10-2.false
 
-returns-4 : tie.Need-returns-4
+returns-4 : tie.Need-returns-else-bytes-i
 returns-4 c =
-    let o = c.before.before in
-    let s = o.before.before in
-    neither s.args.bytes.now s.args.i o.if1.false c.if2.false
+    neither c.args.bytes.now c.args.i c.if-bytes-i-eq10.false c.if-bytes-i.false
 
-pub line-end-spec : {M : Type 1} → statement M
-line-end-spec =
+pub line_end_spec : {M : Type 1} → statement M
+line_end_spec =
     tie.close
     (tie.spec
     (λ c. search rules)
-    (λ c. newline c.before.before.args.bytes.now c.before.before.args.i c.if1.true)
+    (λ c. newline c.args.bytes.now c.args.i c.if-bytes-i-eq10.true)
     (λ c. search rules)
     (λ c. search rules)
     (λ c. search rules)

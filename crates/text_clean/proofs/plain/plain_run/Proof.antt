@@ -17,83 +17,70 @@ use Rattle.text_clean.proofs.plain.Runs.{Going, run_begin, run_bytes, run_char}
 use Rattle.text_clean.proofs.plain.plain_run.Statement.{statement}
 use Rattle.text_clean.proofs.plain.plain_run.Tie as tie
 
-abbrev invariant-loop : tie.invariant-loop
+abbrev invariant-loop : tie.invariant-loop-at
 invariant-loop bytes from gap at₀ chars₀ last₀ at chars last = Going bytes from at chars last
 
-abbrev decreases-loop : tie.decreases-loop
+abbrev decreases-loop : tie.decreases-loop-at
 decreases-loop bytes from gap at₀ chars₀ last₀ at chars last = length bytes - at
 
 -- where the plain bytes end
-behind : (c : tie.Joined1 invariant-loop decreases-loop) →
-    let l = c.before.before in
-    let s = l.before.before in
-    (l.loop.at ≤ c.if1.at) × Going s.args.bytes.now s.args.from c.if1.at c.if1.chars c.if1.new
+behind : (c : tie.Joined-at-end invariant-loop decreases-loop) →
+    (c.loop-at.at ≤ c.if-at-end.at) × Going c.args.bytes.now c.args.from c.if-at-end.at c.if-at-end.chars c.if-at-end.last
 behind c =
-    let e = c.before.ascii-end in
-    let l = c.before.before in
-    let s = l.before.before in
+    let e = c.ascii_end-end in
     ⊎_elim
     (λ w. (
-      omega (arith, w.2, e.ensures.on),
-      rw (w.2, w.3, w.4)
-          (run_bytes s.args.bytes.now s.args.from s.args.gap s.requires.1 l.loop.at l.loop.chars l.loop.last l.loop.invariant e.result e.ensures w.0.taken),
+      omega (arith, w.at-is, e.ensures.on),
+      rw (w.at-is, w.chars-is, w.last-is)
+          (run_bytes c.args.bytes.now c.args.from c.args.gap c.requires.1 c.loop-at.at c.loop-at.chars c.loop-at.last c.loop-at.invariant e.result e.ensures w.if-at-end.true),
     ))
-    (λ w. (omega (arith, w.1), rw (w.1, w.2, w.3) l.loop.invariant))
-    c.if1.branch
+    (λ w. (omega (arith, w.at-is), rw (w.at-is, w.chars-is, w.last-is) c.loop-at.invariant))
+    c.if-at-end.branch-raw
 
-add-chars : tie.Need-overflow-add-chars invariant-loop decreases-loop
-add-chars c = omega (arith, c.before.before.loop.invariant.few, c.before.ascii-end.ensures.low)
+add-chars : tie.Need-overflow_add-chars invariant-loop decreases-loop
+add-chars c = omega (arith, c.loop-at.invariant.few, c.ascii_end-end.ensures.low)
 
-read-last : tie.Need-shared-slice-read-last invariant-loop decreases-loop
-read-last c = omega (arith, c.before.before.ascii-end.ensures.low)
+read-last : tie.Need-bounds-bytes-end invariant-loop decreases-loop
+read-last c = omega (arith, c.ascii_end-end.ensures.low)
 
-cast-last : tie.Need-overflow-cast-last invariant-loop decreases-loop
-cast-last c = omega (arith, c.shared-slice-known2.given (c.before.before.ascii-end.result - 1))
+cast-last : tie.Need-overflow_cast-last invariant-loop decreases-loop
+cast-last c = omega (arith, c.shared_slice_known-then-at-end-1.given (c.ascii_end-end.result - 1))
 
-returns : tie.Need-returns invariant-loop decreases-loop
-returns c = (behind c.before.before.before).1.run
+returns : tie.Need-returns-in_default invariant-loop decreases-loop
+returns c = (behind c.before.before).1.run
 
-returns-2 : tie.Need-returns-2 invariant-loop decreases-loop
-returns-2 c = (behind c.before.before.before.before.before.before).1.run
+returns-2 : tie.Need-returns-then-not-in_range-c invariant-loop decreases-loop
+returns-2 c = (behind c.before.before.before.before).1.run
 
 -- a character of the gap stands there
-step : (c : tie.Else2 invariant-loop decreases-loop) →
-    let v = c.before.before.before in
-    let j = v.before.before.before in
-    utf8_step_of j.before.before.before.before.args.bytes.now j.if1.at ≡ Char v.c.given.0.0 v.c.given.0.1.0
-step c = let v = c.before.before.before in sym v.before.before.utf8-step.ensures ∙ v.c.given.1
+step : (c : tie.Else-not-in_range-c invariant-loop decreases-loop) →
+    utf8_step_of c.args.bytes.now c.if-at-end.at ≡ Char c.in-Char.c c.in-Char.next
+step c = sym c.utf8_step.ensures ∙ c.in-Char.is
 
-add-chars-2 : tie.Need-overflow-add-chars-2 invariant-loop decreases-loop
+add-chars-2 : tie.Need-overflow_add-chars-in-loop-at invariant-loop decreases-loop
 add-chars-2 c =
-    let j = c.before.before.before.before.before.before.before in
-    omega (arith, (behind j).1.few, step_on _ _ _ _ (step c.before))
+    omega (arith, (behind c.before.before.before.before.before).1.few, step_on _ _ _ _ (step c.before))
 
-loop-less : tie.Need-loop-smaller invariant-loop decreases-loop
+loop-less : tie.Need-loop-at-smaller invariant-loop decreases-loop
 loop-less c =
-    let j = c.before.before.before.before.before.before.before in
-    omega (arith, (behind j).0, step_on _ _ _ _ (step c.before))
+    omega (arith, (behind c.before.before.before.before.before).0, step_on _ _ _ _ (step c.before))
 
-loop-again : tie.Need-loop-preserved invariant-loop decreases-loop
+loop-again : tie.Need-loop-at-preserved invariant-loop decreases-loop
 unfolding in_gap
 loop-again c =
-    let e = c.before in
-    let r = e.before in
-    let v = r.before.before in
-    let j = v.before.before.before in
-    let s = j.before.before.before.before in
-    let x = v.c.given.0.0 in
-    let i : (r.in_range_lem.result && not (eqb x 0x149)) && not (eqb x 0x673) ≡ true = not-false _ e.if2.false in
-    run_char s.args.bytes.now s.args.from s.args.gap s.requires.1 j.if1.at j.if1.chars j.if1.new (behind j).1
-    x v.c.given.0.1.0 (step e) (rw r.in_range_lem.ensures at i)
+    let x = c.in-Char.c in
+    let i : (c.in_range.result && not (eqb x 0x149)) && not (eqb x 0x673) ≡ true = c.if-not-in_range-c.false in
+    run_char c.args.bytes.now c.args.from c.args.gap c.requires.1 c.if-at-end.at c.if-at-end.chars c.if-at-end.last (behind c.before.before.before.before.before).1
+    x c.in-Char.next (step c.before) (rw c.in_range.ensures at i)
 
-pub plain-run-spec : {M : Type 1} → statement M
-plain-run-spec =
+pub plain_run_spec : {M : Type 1} → statement M
+plain_run_spec =
     tie.close
     (tie.spec
     invariant-loop
     decreases-loop
-    (λ c. run_begin _ _ c.before.requires.0)
-    (λ c κs. c.loop.invariant.run.low)
+    (λ c. run_begin _ _ c.requires.0)
+    (λ c κs. c.loop-at.invariant.run.low)
     (λ c. search rules)
     add-chars
     (λ c. search rules)

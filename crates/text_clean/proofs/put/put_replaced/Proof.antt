@@ -5,110 +5,77 @@ use Rattle.text_clean.proofs.Stored.{asks_one, asks_first, asks_then, stored_one
 use Rattle.text_clean.proofs.put.put_replaced.Statement.{statement}
 use Rattle.text_clean.proofs.put.put_replaced.Tie as tie
 
-requires-1 : tie.Need-write-utf8-requires
+requires-1 : tie.Need-write_utf8-requires
 requires-1 c κs =
-    let v = c.before.before in
-    let s = v.before.before.before in
-    asks_one v.image.given.0.0 s.args.out.now s.args.at (simp v.image.given.1 at s.requires)
+    asks_one c.in-One.a c.args.out.now c.args.at (simp c.in-One.is at c.requires)
 
 -- two characters: the first, and the second behind it
-requires-2 : tie.Need-write-utf8-requires-2
+requires-2 : tie.Need-write_utf8-second-requires
 requires-2 c κs =
-    let v = c.before.before in
-    let s = v.before.before.before in
-    let x = v.image2.given.0 in
-    asks_one x.0 s.args.out.now s.args.at
-    (asks_first (x.0 ∷ []) (x.1.0 ∷ []) s.args.out.now s.args.at (simp v.image2.given.1 at s.requires))
+    asks_one c.in-Two.a c.args.out.now c.args.at
+    (asks_first (c.in-Two.a ∷ []) (c.in-Two.b ∷ []) c.args.out.now c.args.at (simp c.in-Two.is at c.requires))
 
-requires-3 : tie.Need-write-utf8-requires-3
+requires-3 : tie.Need-write_utf8-requires-in-Two
 requires-3 c κs =
-    let w = c.before.before.before in
-    let v = w.before.before.before in
-    let s = v.before.before.before in
-    let x = v.image2.given.0 in
-    let r = w.write-utf82 in
-    asks_one x.1.0 r.new.1.0 r.result
-    (asks_then (x.0 ∷ []) (x.1.0 ∷ []) s.args.out.now s.args.at r.result r.new.1.0
-    (simp v.image2.given.1 at s.requires)
-    (stored_one x.0 s.args.out.now s.args.at r.result r.new.1.0 r.ensures))
+    let r = c.write_utf8-second in
+    asks_one c.in-Two.b r.new.buf r.result
+    (asks_then (c.in-Two.a ∷ []) (c.in-Two.b ∷ []) c.args.out.now c.args.at r.result r.new.buf
+    (simp c.in-Two.is at c.requires)
+    (stored_one c.in-Two.a c.args.out.now c.args.at r.result r.new.buf r.ensures))
 
 -- three: the first, the second behind it, and the third behind both
-requires-4 : tie.Need-write-utf8-requires-4
+requires-4 : tie.Need-write_utf8-second-requires-in-Three
 requires-4 c κs =
-    let v = c.before.before in
-    let s = v.before.before.before in
-    let x = v.image3.given.0 in
-    asks_one x.0 s.args.out.now s.args.at
-    (asks_first (x.0 ∷ []) (x.1.0 ∷ x.1.1.0 ∷ []) s.args.out.now s.args.at (simp v.image3.given.1 at s.requires))
+    asks_one c.in-Three.a c.args.out.now c.args.at
+    (asks_first (c.in-Three.a ∷ []) (c.in-Three.b ∷ c.in-Three.c ∷ []) c.args.out.now c.args.at (simp c.in-Three.is at c.requires))
 
-requires-5 : tie.Need-write-utf8-requires-5
+requires-5 : tie.Need-write_utf8-third-requires
 requires-5 c κs =
-    let w = c.before.before.before in
-    let v = w.before.before.before in
-    let s = v.before.before.before in
-    let x = v.image3.given.0 in
-    let r = w.write-utf84 in
-    asks_one x.1.0 r.new.1.0 r.result
-    (asks_first (x.1.0 ∷ []) (x.1.1.0 ∷ []) r.new.1.0 r.result
-    (asks_then (x.0 ∷ []) (x.1.0 ∷ x.1.1.0 ∷ []) s.args.out.now s.args.at r.result r.new.1.0
-    (simp v.image3.given.1 at s.requires)
-    (stored_one x.0 s.args.out.now s.args.at r.result r.new.1.0 r.ensures)))
+    let r = c.write_utf8-second-in-Three in
+    asks_one c.in-Three.b r.new.buf r.result
+    (asks_first (c.in-Three.b ∷ []) (c.in-Three.c ∷ []) r.new.buf r.result
+    (asks_then (c.in-Three.a ∷ []) (c.in-Three.b ∷ c.in-Three.c ∷ []) c.args.out.now c.args.at r.result r.new.buf
+    (simp c.in-Three.is at c.requires)
+    (stored_one c.in-Three.a c.args.out.now c.args.at r.result r.new.buf r.ensures)))
 
-requires-6 : tie.Need-write-utf8-requires-6
+requires-6 : tie.Need-write_utf8-requires-in-Three
 requires-6 c κs =
-    let w₂ = c.before.before.before in
-    let w = w₂.before.before.before.before in
-    let v = w.before.before.before in
-    let s = v.before.before.before in
-    let x = v.image3.given.0 in
-    let r = w.write-utf84 in
-    let r₂ = w₂.write-utf85 in
-    asks_one x.1.1.0 r₂.new.1.0 r₂.result
-    (asks_then (x.1.0 ∷ []) (x.1.1.0 ∷ []) r.new.1.0 r.result r₂.result r₂.new.1.0
-    (asks_then (x.0 ∷ []) (x.1.0 ∷ x.1.1.0 ∷ []) s.args.out.now s.args.at r.result r.new.1.0
-    (simp v.image3.given.1 at s.requires)
-    (stored_one x.0 s.args.out.now s.args.at r.result r.new.1.0 r.ensures))
-    (stored_one x.1.0 r.new.1.0 r.result r₂.result r₂.new.1.0 r₂.ensures))
+    let r = c.write_utf8-second-in-Three in
+    let r₂ = c.write_utf8-third in
+    asks_one c.in-Three.c r₂.new.buf r₂.result
+    (asks_then (c.in-Three.b ∷ []) (c.in-Three.c ∷ []) r.new.buf r.result r₂.result r₂.new.buf
+    (asks_then (c.in-Three.a ∷ []) (c.in-Three.b ∷ c.in-Three.c ∷ []) c.args.out.now c.args.at r.result r.new.buf
+    (simp c.in-Three.is at c.requires)
+    (stored_one c.in-Three.a c.args.out.now c.args.at r.result r.new.buf r.ensures))
+    (stored_one c.in-Three.b r.new.buf r.result r₂.result r₂.new.buf r₂.ensures))
 
-returns : tie.Need-returns
+returns : tie.Need-returns-in-One
 returns c =
-    let w = c.before.before in
-    simp w.before.before.before.image.given.1 (stored_one _ _ _ _ _ w.write-utf8.ensures)
+    simp c.in-One.is (stored_one _ _ _ _ _ c.write_utf8.ensures)
 
-returns-2 : tie.Need-returns-2
+returns-2 : tie.Need-returns-in-Two
 returns-2 c =
-    let w₂ = c.before.before in
-    let w = w₂.before.before.before.before in
-    let v = w.before.before.before in
-    let s = v.before.before.before in
-    let x = v.image2.given.0 in
-    let r = w.write-utf82 in
-    let r₂ = w₂.write-utf83 in
-    simp v.image2.given.1
-    (stored_then (x.0 ∷ []) (x.1.0 ∷ []) s.args.out.now s.args.at r.result r₂.result r.new.1.0 r₂.new.1.0
-    (stored_one x.0 s.args.out.now s.args.at r.result r.new.1.0 r.ensures)
-    (stored_one x.1.0 r.new.1.0 r.result r₂.result r₂.new.1.0 r₂.ensures))
+    let r = c.write_utf8-second in
+    let r₂ = c.write_utf8-in-Two in
+    simp c.in-Two.is
+    (stored_then (c.in-Two.a ∷ []) (c.in-Two.b ∷ []) c.args.out.now c.args.at r.result r₂.result r.new.buf r₂.new.buf
+    (stored_one c.in-Two.a c.args.out.now c.args.at r.result r.new.buf r.ensures)
+    (stored_one c.in-Two.b r.new.buf r.result r₂.result r₂.new.buf r₂.ensures))
 
-returns-3 : tie.Need-returns-3
+returns-3 : tie.Need-returns-in-Three
 returns-3 c =
-    let w₃ = c.before.before in
-    let w₂ = w₃.before.before.before.before in
-    let w = w₂.before.before.before.before in
-    let v = w.before.before.before in
-    let s = v.before.before.before in
-    let x = v.image3.given.0 in
-    let r = w.write-utf84 in
-    let r₂ = w₂.write-utf85 in
-    let r₃ = w₃.write-utf86 in
-    simp v.image3.given.1
-    (stored_then (x.0 ∷ []) (x.1.0 ∷ x.1.1.0 ∷ []) s.args.out.now s.args.at r.result r₃.result r.new.1.0 r₃.new.1.0
-    (stored_one x.0 s.args.out.now s.args.at r.result r.new.1.0 r.ensures)
-    (stored_then (x.1.0 ∷ []) (x.1.1.0 ∷ []) r.new.1.0 r.result r₂.result r₃.result r₂.new.1.0 r₃.new.1.0
-    (stored_one x.1.0 r.new.1.0 r.result r₂.result r₂.new.1.0 r₂.ensures)
-    (stored_one x.1.1.0 r₂.new.1.0 r₂.result r₃.result r₃.new.1.0 r₃.ensures)))
+    let r = c.write_utf8-second-in-Three in
+    let r₂ = c.write_utf8-third in
+    let r₃ = c.write_utf8-in-Three in
+    simp c.in-Three.is
+    (stored_then (c.in-Three.a ∷ []) (c.in-Three.b ∷ c.in-Three.c ∷ []) c.args.out.now c.args.at r.result r₃.result r.new.buf r₃.new.buf
+    (stored_one c.in-Three.a c.args.out.now c.args.at r.result r.new.buf r.ensures)
+    (stored_then (c.in-Three.b ∷ []) (c.in-Three.c ∷ []) r.new.buf r.result r₂.result r₃.result r₂.new.buf r₃.new.buf
+    (stored_one c.in-Three.b r.new.buf r.result r₂.result r₂.new.buf r₂.ensures)
+    (stored_one c.in-Three.c r₂.new.buf r₂.result r₃.result r₃.new.buf r₃.ensures)))
 
-pub put-replaced-spec : {M : Type 1} → statement M
-put-replaced-spec =
+pub put_replaced_spec : {M : Type 1} → statement M
+put_replaced_spec =
     tie.close
     (tie.spec
     (λ c. search rules)

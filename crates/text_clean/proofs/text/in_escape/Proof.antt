@@ -6,24 +6,21 @@ use Rattle.text_clean.specs.Text.{in_escape}
 use Rattle.text_clean.proofs.text.in_escape.Statement.{statement}
 use Rattle.text_clean.proofs.text.in_escape.Tie as tie
 
-returns : tie.Need-returns
+returns : tie.Need-returns-then-c-eq-ESC
 unfolding in_escape
-returns c = rw (eq-eqb _ _ c.if1.true)
+returns c = rw (eq-eqb _ _ c.if-c-eq-ESC.true)
 
-returns-2 : tie.Need-returns-2
+returns-2 : tie.Need-returns-then-is_escape
 unfolding in_escape
 returns-2 c =
-    let l = c.before in
-    let i = l.before.before in
-    rw (ne_eqb _ _ i.before.if1.false, sym i.is-escape.ensures ∙ l.before.if2.true, c.is-part.ensures, l.leave.ensures)
+    rw (ne_eqb _ _ c.if-c-eq-ESC.false, sym c.is_escape.ensures ∙ c.if-is_escape.true, c.is_part.ensures, c.leave.ensures)
 
-returns-3 : tie.Need-returns-3
+returns-3 : tie.Need-returns
 unfolding in_escape
 returns-3 c =
-    let i = c.before in
-    rw (ne_eqb _ _ i.before.if1.false, sym i.is-escape.ensures ∙ c.if2.false)
+    rw (ne_eqb _ _ c.if-c-eq-ESC.false, sym c.is_escape.ensures ∙ c.if-is_escape.false)
 
-pub in-escape-spec : {M : Type 1} → statement M
-in-escape-spec =
+pub in_escape_spec : {M : Type 1} → statement M
+in_escape_spec =
     tie.close
     (tie.spec returns (λ c κs. search rules) (λ c κs. search rules) (λ c κs. search rules) returns-2 returns-3)

@@ -3,5 +3,5 @@ use borrow.Author.Rules.{rules}
 use Rattle.text_clean.proofs.text.is_losable.Statement.{statement}
 use Rattle.text_clean.proofs.text.is_losable.Tie as tie
 
-pub is-losable-spec : {M : Type 1} → statement M
-is-losable-spec = tie.close (tie.spec (λ c κs. search rules) (λ c. rw c.is-optional-line.ensures))
+pub is_losable_spec : {M : Type 1} → statement M
+is_losable_spec = tie.close (tie.spec (λ c κs. search rules) (λ c. rw c.is_optional_line.ensures))

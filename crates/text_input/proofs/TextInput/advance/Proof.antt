@@ -15,64 +15,52 @@ use Rattle.text_input.proofs.Stretch.{Keeps, keeps, kept_room, kept_moves, turn_
 use Rattle.text_input.proofs.TextInput.advance.Statement.{statement}
 use Rattle.text_input.proofs.TextInput.advance.Tie as tie
 
-abbrev Entry : tie.After-is-sought → tie.Start
-Entry c = c.before.before.before.before.before.before.before
-
 -- what is copied is kept
-kept : (c : tie.After-plain-end) →
-    let a = (Entry c.before.before).args in
-    Keeps a.self a.chunk.now a.i c.plain-end.result
+kept : (c : tie.After-plain_end-end) →
+    let a = c.args in
+    Keeps a.self a.chunk.now a.i c.plain_end-end.result
 kept c =
-    let s = c.before.before in
-    let a = Entry s in
-    let t = both_true _ _ c.before.if1.true in
-    let h = sym (ap (λ (q : Sought). in_sought q (get_or a.args.chunk.now a.args.i 0)) s.before.ascii-or.ensures) ∙ sym s.is-sought.ensures ∙ t.1 in
-    keeps _ _ _ _ _ (sym s.before.before.is-steady.ensures ∙ t.0) a.pre.1.1.0 h c.plain-end.ensures
+    let t = both_true _ _ c.if-is_steady-is_sought.true in
+    let h = sym (ap (λ (q : Sought). in_sought q (get_or c.args.chunk.now c.args.i 0)) c.ascii_or.ensures) ∙ sym c.is_sought.ensures ∙ t.1 in
+    keeps _ _ _ _ _ (sym c.is_steady.ensures ∙ t.0) c.requires.1.1.0 h c.plain_end-end.ensures
 
 -- there is room for it
-fits : (c : tie.After-plain-end) →
-    let a = (Entry c.before.before).args in
-    a.k + length (part a.i c.plain-end.result a.chunk.now) ≤ limit_of a.stores a.queue.now
+fits : (c : tie.After-plain_end-end) →
+    let a = c.args in
+    a.k + length (part a.i c.plain_end-end.result a.chunk.now) ≤ limit_of a.stores a.queue.now
 fits c =
-    let a = Entry c.before.before in
-    kept_room _ _ _ _ _ a.args.stores a.args.queue.now _ _ (kept c) a.pre.1.1.1
+    kept_room _ _ _ _ _ c.args.stores c.args.queue.now _ _ (kept c) c.requires.1.1.1
 
-put-run-if-requires : tie.Need-put-run-if-requires
+put-run-if-requires : tie.Need-put_run_if-requires
 put-run-if-requires c κs = fits c.before.before
 
 -- the place after it is a number of 64 bits
-after-fits : (c : tie.After-plain-end) → let a = (Entry c.before.before).args in a.k + (c.plain-end.result - a.i) < 18446744073709551616
+after-fits : (c : tie.After-plain_end-end) → let a = c.args in a.k + (c.plain_end-end.result - a.i) < 18446744073709551616
 after-fits c =
-    let a = Entry c.before.before in
     let v = kept c in
-    omega (arith, fits c, limit_fits a.args.stores a.args.queue.now (omega (arith, a.good)), part_length a.args.chunk.now a.args.i c.plain-end.result (omega (arith, v.more)) v.low, a.good)
+    omega (arith, fits c, limit_fits c.args.stores c.args.queue.now (omega (arith, c.well_formed)), part_length c.args.chunk.now c.args.i c.plain_end-end.result (omega (arith, v.more)) v.low, c.well_formed)
 
-next_fits : (c : tie.After-shared-slice-known3) → c.before.before.before.before.args.i + 1 < 18446744073709551616
+next_fits : (c : tie.After-shared_slice_known-3-1) → c.args.i + 1 < 18446744073709551616
 next_fits c = search rules
 
-turn-requires : tie.Need-turn-requires
+turn-requires : tie.Need-turn-turned-requires
 turn-requires c κs =
-    let a = Entry c.before.before in
-    (a.pre.0, turn_room _ _ _ _ _ a.args.stores a.args.queue.now _ a.pre.1.0 a.pre.1.1.1)
+    (c.requires.0, turn_room _ _ _ _ _ c.args.stores c.args.queue.now _ c.requires.1.0 c.requires.1.1.1)
 
-gap-after-requires : tie.Need-gap-after-requires
-gap-after-requires c κs = (Entry c.before.before.before.before.before.before).requires.1.1.0
+gap-after-requires : tie.Need-gap_after-near-requires
+gap-after-requires c κs = c.requires.1.1.0
 
-returns : tie.Need-returns
+returns : tie.Need-returns-then-is_steady-is_sought
 returns c =
-    let e = c.before.before.before.before.before.before.before in
-    let a = Entry e.before.before in
-    kept_moves _ _ _ _ _ _ _ _ _ (kept e) _ a.pre.1.1.0 _ c.passed.ensures _ c.before.before.before.before.put-run-if.ensures
+    kept_moves _ _ _ _ _ _ _ _ _ (kept c.before.before.before.before.before.before.before) _ c.requires.1.1.0 _ c.passed-next.ensures _ c.put_run_if.ensures
 
-returns-2 : tie.Need-returns-2
+returns-2 : tie.Need-returns-else-is_steady-is_sought
 returns-2 c =
-    let u = c.before.before.before.before in
-    let a = Entry u.before.before.before in
-    let t = u.turn.ensures in
-    turn_moves _ _ _ _ _ _ _ _ a.pre.1.0 _ c.gap-after.ensures _ t.0 _ t.1
+    let t = c.turn-turned.ensures in
+    turn_moves _ _ _ _ _ _ _ _ c.requires.1.0 _ c.gap_after-near.ensures _ t.0 _ t.1
 
-pub advance-spec : {M : Type 1} → statement M
-advance-spec =
+pub advance_spec : {M : Type 1} → statement M
+advance_spec =
     tie.close
     (tie.spec
     (λ c. search rules)

@@ -6,21 +6,18 @@ use Rattle.text_input.proofs.TextInput.ending.Tie as tie
 
 returns : tie.Need-returns
 returns c =
-    let n = c.before.before in
-    let m = n.before in
-    let l = m.before.before.before in
-    let a = l.before.args in
-    let h₁ = m.before.before.pending.ensures in
-    let h₂ = m.before.last-lead.ensures in
-    let h₃ = m.end_mark.ensures in
-    let h₄ = l.after_line.ensures in
-    let h₅ = n.owed-newline.ensures in (
+    let a = c.args in
+    let h₁ = c.pending-lead.ensures in
+    let h₂ = c.last_lead-last.ensures in
+    let h₃ = c.end_mark-mark.ensures in
+    let h₄ = c.after_line-line.ensures in
+    let h₅ = c.owed_newline-newline.ensures in (
       ending_chars_lem a.self a.eof _ _ _ _ _ h₁ h₂ h₃ h₄ h₅,
-      ending_next a.self a.eof _ _ _ _ _ h₁ h₂ h₃ h₄ h₅ _ _ c.before.last-lead2.ensures c.last-lead3.ensures,
+      ending_next a.self a.eof _ _ _ _ _ h₁ h₂ h₃ h₄ h₅ _ _ c.last_lead.ensures c.last_lead-2.ensures,
     )
 
-pub ending-spec : {M : Type 1} → statement M
-ending-spec =
+pub ending_spec : {M : Type 1} → statement M
+ending_spec =
     tie.close
     (tie.spec
     (λ c κs. search rules)

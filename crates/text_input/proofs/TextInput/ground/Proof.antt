@@ -3,19 +3,19 @@ use borrow.Author.Rules.{rules}
 use Rattle.text_input.proofs.TextInput.ground.Statement.{statement}
 use Rattle.text_input.proofs.TextInput.ground.Tie as tie
 
-returns : tie.Need-returns
-returns c = simp (← c.before.before.before.meet.ensures, c.before.enum_told.given.1) c.made.ensures
+returns : tie.Need-returns-in-Line
+returns c = simp (← c.meet-met.ensures, c.in-Line.is) c.made.ensures
 
-returns-2 : tie.Need-returns-2
-returns-2 c = simp (← c.before.before.before.before.meet.ensures, c.before.before.met.given.1) c.made2.ensures
+returns-2 : tie.Need-returns-in-Opens
+returns-2 c = simp (← c.meet-met.ensures, c.in-Opens.is) c.made-in-Opens.ensures
 
-returns-3 : tie.Need-returns-3
+returns-3 : tie.Need-returns-in-Other
 returns-3 c =
-    simp (← c.before.before.before.before.before.meet.ensures, c.before.before.before.enum-told2.given.1, ← c.before.before.replace-by.ensures, ← c.before.guard.ensures)
-    c.made3.ensures
+    simp (← c.meet-met.ensures, c.in-Other.is, ← c.replace_by-image.ensures, ← c.guard-guarded.ensures)
+    c.made-in-Other.ensures
 
-pub ground-spec : {M : Type 1} → statement M
-ground-spec =
+pub ground_spec : {M : Type 1} → statement M
+ground_spec =
     tie.close
     (tie.spec
     (λ c κs. search rules)

@@ -3,5 +3,5 @@ use borrow.Author.Rules.{rules}
 use Rattle.text_input.proofs.TextInput.is_steady.Statement.{statement}
 use Rattle.text_input.proofs.TextInput.is_steady.Tie as tie
 
-pub is-steady-spec : {M : Type 1} → statement M
-is-steady-spec = tie.close (tie.spec (λ c κs. search rules) (λ c. rw c.before.is-ground.ensures))
+pub is_steady_spec : {M : Type 1} → statement M
+is_steady_spec = tie.close (tie.spec (λ c κs. search rules) (λ c. rw c.is_ground.ensures))

@@ -4,7 +4,7 @@ use Rattle.text_input.proofs.TextInput.made.Statement.{statement}
 use Rattle.text_input.proofs.TextInput.made.Tie as tie
 
 returns : tie.Need-returns
-returns c = simp (c.last-image.ensures, c.before.last-lead.ensures)
+returns c = simp (c.last_image.ensures, c.last_lead.ensures)
 
-pub made-spec : {M : Type 1} → statement M
-made-spec = tie.close (tie.spec (λ c κs. search rules) (λ c κs. search rules) returns)
+pub made_spec : {M : Type 1} → statement M
+made_spec = tie.close (tie.spec (λ c κs. search rules) (λ c κs. search rules) returns)

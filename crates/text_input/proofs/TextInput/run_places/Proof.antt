@@ -8,14 +8,13 @@ use Rattle.text_input.proofs.Room.{room}
 use Rattle.text_input.proofs.TextInput.run_places.Statement.{statement}
 use Rattle.text_input.proofs.TextInput.run_places.Tie as tie
 
-go-requires : tie.Need-go-requires
+go-requires : tie.Need-go-ran-requires
 go-requires c κs =
-    let s = c.before.before.before in
-    let a = s.args in
-    (s.requires.0, omega (arith, s.requires.1, room a.page.now a.options a.self a.chunk.now))
+    let a = c.args in
+    (c.requires.0, omega (arith, c.requires.1, room a.page.now a.options a.self a.chunk.now))
 
 returns : tie.Need-returns
-returns c = ap (λ (x : Ran). x.written) c.before.go.ensures.0 ∙ zero-add _
+returns c = ap (λ (x : Ran). x.written) c.go-ran.ensures.0 ∙ zero-add _
 
-pub run-places-spec : {M : Type 1} → statement M
-run-places-spec = tie.close (tie.spec (λ c. search rules) (λ c. search rules) (λ c. search rules) go-requires returns)
+pub run_places_spec : {M : Type 1} → statement M
+run_places_spec = tie.close (tie.spec (λ c. search rules) (λ c. search rules) (λ c. search rules) go-requires returns)

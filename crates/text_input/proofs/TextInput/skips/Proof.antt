@@ -21,18 +21,16 @@ none : (cs : List ℕ) → length cs ≤ 0 → 0 ≡ leading_bom cs
 none [] h = refl
 none (c ∷ cs) h = absurd (omega arith)
 
-returns-2 : tie.Need-returns-2
+returns-2 : tie.Need-returns-then-chunk-eq-BOM
 returns-2 c =
-    let t = c.before.before in
-    simp (not-false t.before.before.before.args.self.at_start t.before.if1.false) (rw (← some t.before.before.before.args.chunk.now t.if2.true) (search tests))
+    simp (not-false c.args.self.at_start c.if-not-self.false) (rw (← some c.args.chunk.now c.if-chunk-gt0.true) (search tests))
 
-returns-3 : tie.Need-returns-3
+returns-3 : tie.Need-returns-else-chunk-eq-BOM
 returns-3 c =
-    let t = c.before.before in
-    simp (not-false t.before.before.before.args.self.at_start t.before.if1.false) (rw (← some t.before.before.before.args.chunk.now t.if2.true) (search tests))
+    simp (not-false c.args.self.at_start c.if-not-self.false) (rw (← some c.args.chunk.now c.if-chunk-gt0.true) (search tests))
 
-returns-4 : tie.Need-returns-4
-returns-4 c = simp (not-false c.before.before.before.args.self.at_start c.before.if1.false) (none c.before.before.before.args.chunk.now c.if2.false)
+returns-4 : tie.Need-returns-else-chunk-gt0
+returns-4 c = simp (not-false c.args.self.at_start c.if-not-self.false) (none c.args.chunk.now c.if-chunk-gt0.false)
 
-pub skips-spec : {M : Type 1} → statement M
-skips-spec = tie.close (tie.spec (λ c. simp (not-true c.before.before.args.self.at_start c.if1.true)) (λ c. search rules) returns-2 returns-3 returns-4)
+pub skips_spec : {M : Type 1} → statement M
+skips_spec = tie.close (tie.spec (λ c. simp (not-true c.args.self.at_start c.if-not-self.true)) (λ c. search rules) returns-2 returns-3 returns-4)

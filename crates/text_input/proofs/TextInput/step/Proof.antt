@@ -5,26 +5,26 @@ use Rattle.text_input.specs.Step.{scan_step_of}
 use Rattle.text_input.proofs.TextInput.step.Statement.{statement}
 use Rattle.text_input.proofs.TextInput.step.Tie as tie
 
-returns : tie.Need-returns
+returns : tie.Need-returns-in-Part
 unfolding scan_step_of
-returns c = simp (← c.before.before.before.before.leave.ensures, c.before.before.left.given.1) c.made.ensures
+returns c = simp (← c.leave-left.ensures, c.in-Part.is) c.made.ensures
 
-returns-2 : tie.Need-returns-2
+returns-2 : tie.Need-returns-in-Newline
 unfolding scan_step_of
-returns-2 c = simp (← c.before.before.before.leave.ensures, c.before.enum_told.given.1) c.made2.ensures
+returns-2 c = simp (← c.leave-left.ensures, c.in-Newline.is) c.made-in-Newline.ensures
 
-returns-3 : tie.Need-returns-3
+returns-3 : tie.Need-returns
 unfolding scan_step_of
 returns-3 c =
-    let l = c.before.before.leave.ensures in
+    let l = c.leave-left.ensures in
     ⊎_elim
-    (λ w. simp (← l, w.1.given.1) (rw (w.2, w.3) at c.ground.ensures))
+    (λ w. simp (← l, w.in-Goes.is) (rw (w.lead-is, w.expect-is) at c.ground.ensures))
     (⊎_elim
-    (λ w. simp (← l, w.1.given.1) (rw (w.2, w.3) at c.ground.ensures))
+    (λ w. simp (← l, w.in-Ends.is) (rw (w.lead-is, w.expect-is) at c.ground.ensures))
     (⊎_elim
-    (λ w. simp (← l, w.1.given.1) (rw (w.3, w.4) at c.ground.ensures))
-    (λ w. simp (← l, w.1.given.1) (rw (w.2, w.3) at c.ground.ensures))))
-    c.before.match.branch
+    (λ w. simp (← l, w.in-After.is) (rw (w.lead-is, w.expect-is) at c.ground.ensures))
+    (λ w. simp (← l, w.in-Dropped.is) (rw (w.lead-is, w.expect-is) at c.ground.ensures))))
+    c.match-left.branch-raw
 
 pub step_spec : {M : Type 1} → statement M
 step_spec =

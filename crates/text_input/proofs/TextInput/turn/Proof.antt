@@ -5,13 +5,13 @@ use Rattle.text_input.proofs.Stretch.{ran_is}
 use Rattle.text_input.proofs.TextInput.turn.Statement.{statement}
 use Rattle.text_input.proofs.TextInput.turn.Tie as tie
 
-put-if-requires : tie.Need-put-if-requires
-put-if-requires c κs = rw c.before.step.ensures c.before.before.before.before.requires.1
+put-if-requires : tie.Need-put_if-written-requires
+put-if-requires c κs = rw c.step-step.ensures c.requires.1
 
 returns : tie.Need-returns
 returns c =
-    let s = c.before.before.before.before.before.step.ensures in
-    let q = c.before.before.before.put_if.ensures in
+    let s = c.step-step.ensures in
+    let q = c.put_if-written.ensures in
     rw (← s) (ran_is q.0 refl, q.1)
 
 pub turn_spec : {M : Type 1} → statement M

@@ -8,5 +8,5 @@ returns : tie.Need-returns
 unfolding optional_line
 returns c = refl
 
-pub is-optional-line-spec : {M : Type 1} → statement M
-is-optional-line-spec = tie.close (tie.spec returns)
+pub is_optional_line_spec : {M : Type 1} → statement M
+is_optional_line_spec = tie.close (tie.spec returns)

@@ -4,8 +4,8 @@ use Rattle.common.proofs.Kit.{tests}
 use Rattle.text_input.proofs.step.leave_csi.Statement.{statement}
 use Rattle.text_input.proofs.step.leave_csi.Tie as tie
 
-pub leave-csi-spec : {M : Type 1} → statement M
-leave-csi-spec =
+pub leave_csi_spec : {M : Type 1} → statement M
+leave_csi_spec =
     tie.close
     (tie.spec
     (λ c κs. search rules)

@@ -4,8 +4,8 @@ use Rattle.common.proofs.Kit.{tests}
 use Rattle.text_input.proofs.step.leave_esc.Statement.{statement}
 use Rattle.text_input.proofs.step.leave_esc.Tie as tie
 
-pub leave-esc-spec : {M : Type 1} → statement M
-leave-esc-spec =
+pub leave_esc_spec : {M : Type 1} → statement M
+leave_esc_spec =
     tie.close
     (tie.spec
     (λ c κs. search rules)

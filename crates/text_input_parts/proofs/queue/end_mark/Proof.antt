@@ -4,5 +4,5 @@ use Rattle.common.proofs.Kit.{tests}
 use Rattle.text_input_parts.proofs.queue.end_mark.Statement.{statement}
 use Rattle.text_input_parts.proofs.queue.end_mark.Tie as tie
 
-pub end-mark-spec : {M : Type 1} → statement M
-end-mark-spec = tie.close (tie.spec (λ c κs. search rules) (λ c. search tests) (λ c. search tests))
+pub end_mark_spec : {M : Type 1} → statement M
+end_mark_spec = tie.close (tie.spec (λ c κs. search rules) (λ c. search tests) (λ c. search tests))

@@ -5,13 +5,13 @@ use Rattle.common.proofs.Kit.{tests}
 use Rattle.text_input_parts.proofs.queue.guard.Statement.{statement}
 use Rattle.text_input_parts.proofs.queue.guard.Tie as tie
 
-returns : tie.Need-returns
+returns : tie.Need-returns-then-is_basic_text_start
 returns c =
-    simp (c.before.before.before.if1.true, sym c.before.before.first_char.ensures, sym c.before.is-basic-text-start.ensures, c.if2.true)
+    simp (c.if-expect.true, sym c.first_char.ensures, sym c.is_basic_text_start.ensures, c.if-is_basic_text_start.true)
 
-returns-2 : tie.Need-returns-2
+returns-2 : tie.Need-returns-else-is_basic_text_start
 returns-2 c =
-    simp (c.before.before.before.if1.true, sym c.before.before.first_char.ensures, sym c.before.is-basic-text-start.ensures, c.if2.false)
+    simp (c.if-expect.true, sym c.first_char.ensures, sym c.is_basic_text_start.ensures, c.if-is_basic_text_start.false)
 
-pub guard-spec : {M : Type 1} → statement M
-guard-spec = tie.close (tie.spec (λ c κs. search rules) (λ c κs. search rules) returns returns-2 (λ c. search tests))
+pub guard_spec : {M : Type 1} → statement M
+guard_spec = tie.close (tie.spec (λ c κs. search rules) (λ c κs. search rules) returns returns-2 (λ c. search tests))

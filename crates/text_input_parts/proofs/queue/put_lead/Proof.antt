@@ -6,11 +6,11 @@ use borrow.Author.Rules.{rules}
 use Rattle.text_input_parts.proofs.queue.put_lead.Statement.{statement}
 use Rattle.text_input_parts.proofs.queue.put_lead.Tie as tie
 
-slice-write-queue : tie.Need-slice-write-queue
-slice-write-queue c = omega (arith, simp c.before.lead.given.1 at c.before.before.before.requires)
+slice-write-queue : tie.Need-bounds-queue-at
+slice-write-queue c = omega (arith, simp c.in-Char.is at c.requires)
 
-pub put-lead-spec : {M : Type 1} → statement M
-put-lead-spec =
+pub put_lead_spec : {M : Type 1} → statement M
+put_lead_spec =
     tie.close
     (tie.spec
     (λ c. search rules)
@@ -18,6 +18,6 @@ put-lead-spec =
     (λ c. search rules)
     slice-write-queue
     (λ c. search rules)
-    (λ c. simp (c.enum_told.given.1, add-zero) (refl, refl))
+    (λ c. simp (c.in-Nothing.is, add-zero) (refl, refl))
     (λ c. search rules)
-    (λ c. simp c.before.lead.given.1 (refl, refl)))
+    (λ c. simp c.in-Char.is (refl, refl)))

@@ -9,34 +9,34 @@ use Rattle.text_input_parts.proofs.Stored.{kept_none}
 use Rattle.text_input_parts.proofs.queue.put_lead_if.Statement.{statement}
 use Rattle.text_input_parts.proofs.queue.put_lead_if.Tie as tie
 
-room : (c : tie.Then1) → let a = c.before.before.before.before.args in a.at + 1 ≤ length a.queue.now
-room c = omega (arith, simp (c.before.before.lead.given.1, c.if1.true) at c.before.before.before.before.requires)
+room : (c : tie.Then-stores) → let a = c.args in a.at + 1 ≤ length a.queue.now
+room c = omega (arith, simp (c.in-Char.is, c.if-stores.true) at c.requires)
 
-mul-queue : tie.Need-overflow-mul-queue
-mul-queue c = record { fits = omega (arith, room c, c.before.before.before.before.well-formed) }
+mul-queue : tie.Need-offset_bounds-queue-at
+mul-queue c = record { fits = omega (arith, room c, c.well_formed) }
 
-slice-write-queue : tie.Need-slice-write-queue
+slice-write-queue : tie.Need-bounds-queue-at
 slice-write-queue c = omega (arith, room c)
 
-add-result : tie.Need-overflow-add-result
-add-result c = record { fits = omega (arith, room c, c.before.before.before.before.well-formed) }
+add-result : tie.Need-overflow_add-result
+add-result c = record { fits = omega (arith, room c, c.well_formed) }
 
-returns : tie.Need-returns
-returns c = simp (c.before.before.lead.given.1, c.if1.true) (refl, refl)
+returns : tie.Need-returns-then-stores
+returns c = simp (c.in-Char.is, c.if-stores.true) (refl, refl)
 
-add-result-2 : tie.Need-overflow-add-result-2
+add-result-2 : tie.Need-overflow_add-result-in-Char
 add-result-2 c =
-    record { fits = omega (arith, simp (c.before.before.lead.given.1, c.if1.false) at c.before.before.before.before.requires) }
+    record { fits = omega (arith, simp (c.in-Char.is, c.if-stores.false) at c.requires) }
 
-returns-2 : tie.Need-returns-2
+returns-2 : tie.Need-returns-in-Nothing
 returns-2 c =
-    let a = c.before.before.args in
-    simp (c.enum_told.given.1, add-zero) (refl, sym (kept_none a.stores a.queue.now a.at))
+    let a = c.args in
+    simp (c.in-Nothing.is, add-zero) (refl, sym (kept_none a.stores a.queue.now a.at))
 
-returns-3 : tie.Need-returns-3
-returns-3 c = simp (c.before.before.lead.given.1, c.if1.false) (refl, refl)
+returns-3 : tie.Need-returns-else-stores
+returns-3 c = simp (c.in-Char.is, c.if-stores.false) (refl, refl)
 
-pub put-lead-if-spec : {M : Type 1} → statement M
-put-lead-if-spec =
+pub put_lead_if_spec : {M : Type 1} → statement M
+put_lead_if_spec =
     tie.close
     (tie.spec (λ c. search rules) (λ c. search rules) mul-queue slice-write-queue add-result (λ c. search rules) returns add-result-2 returns-2 returns-3)

@@ -7,35 +7,35 @@ use borrow.Author.Rules.{rules}
 use Rattle.text_input_parts.proofs.queue.put_replaced.Statement.{statement}
 use Rattle.text_input_parts.proofs.queue.put_replaced.Tie as tie
 
-write : tie.Need-slice-write-queue
-write c = omega (arith, simp c.before.image.given.1 at c.before.before.before.requires)
+write : tie.Need-bounds-queue-at
+write c = omega (arith, simp c.in-One.is at c.requires)
 
-write-2 : tie.Need-slice-write-queue-2
-write-2 c = omega (arith, simp c.before.image2.given.1 at c.before.before.before.requires)
+write-2 : tie.Need-bounds-queue-at-in-Two
+write-2 c = omega (arith, simp c.in-Two.is at c.requires)
 
-write-3 : tie.Need-slice-write-queue-3
-write-3 c = simp length-set (omega (arith, simp c.before.image2.given.1 at c.before.before.before.requires))
+write-3 : tie.Need-bounds-queue-at-in-Two-2
+write-3 c = simp length-set (omega (arith, simp c.in-Two.is at c.requires))
 
-write-4 : tie.Need-slice-write-queue-4
-write-4 c = omega (arith, simp c.before.image3.given.1 at c.before.before.before.requires)
+write-4 : tie.Need-bounds-queue-at-in-Three
+write-4 c = omega (arith, simp c.in-Three.is at c.requires)
 
-write-5 : tie.Need-slice-write-queue-5
-write-5 c = simp length-set (omega (arith, simp c.before.image3.given.1 at c.before.before.before.requires))
+write-5 : tie.Need-bounds-queue-at-in-Three-2
+write-5 c = simp length-set (omega (arith, simp c.in-Three.is at c.requires))
 
-write-6 : tie.Need-slice-write-queue-6
-write-6 c = simp length-set (omega (arith, simp c.before.image3.given.1 at c.before.before.before.requires))
+write-6 : tie.Need-bounds-queue-at-in-Three-3
+write-6 c = simp length-set (omega (arith, simp c.in-Three.is at c.requires))
 
-returns : tie.Need-returns
-returns c = simp c.before.image.given.1 (refl, refl)
+returns : tie.Need-returns-in-One
+returns c = simp c.in-One.is (refl, refl)
 
-returns-2 : tie.Need-returns-2
-returns-2 c = simp c.before.image2.given.1 (refl, simp add-one)
+returns-2 : tie.Need-returns-in-Two
+returns-2 c = simp c.in-Two.is (refl, simp add-one)
 
-returns-3 : tie.Need-returns-3
-returns-3 c = simp c.before.image3.given.1 (refl, simp (add-one, add-two))
+returns-3 : tie.Need-returns-in-Three
+returns-3 c = simp c.in-Three.is (refl, simp (add-one, add-two))
 
-pub put-replaced-spec : {M : Type 1} → statement M
-put-replaced-spec =
+pub put_replaced_spec : {M : Type 1} → statement M
+put_replaced_spec =
     tie.close
     (tie.spec
     (λ c. search rules)

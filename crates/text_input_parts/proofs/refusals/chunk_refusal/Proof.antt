@@ -7,27 +7,25 @@ use Rattle.text_input_parts.specs.Refusals.{max_count, chunk_refusal}
 use Rattle.text_input_parts.proofs.refusals.chunk_refusal.Statement.{statement}
 use Rattle.text_input_parts.proofs.refusals.chunk_refusal.Tie as tie
 
-returns : tie.Need-returns
+returns : tie.Need-returns-then-not-page
 unfolding chunk_refusal
-returns c = simp c.if1.true
+returns c = simp c.if-not-page.true
 
-returns-2 : tie.Need-returns-2
+returns-2 : tie.Need-returns-then-not-chars
 unfolding chunk_refusal
-returns-2 c = simp (c.before.if1.false, c.if2.true)
+returns-2 c = simp (c.if-not-page.false, c.if-not-chars.true)
 
-returns-3 : tie.Need-returns-3
+returns-3 : tie.Need-returns-then-count-n
 unfolding chunk_refusal
 returns-3 c =
-    let t = c.before.before in
-    let a = t.before.args in
-    simp (t.if1.false, c.before.if2.false, lt-ltb max_count (a.count + a.n) (omega (arith, c.if3.true)))
+    let a = c.args in
+    simp (c.if-not-page.false, c.if-not-chars.false, lt-ltb max_count (a.count + a.n) (omega (arith, c.if-count-n.true)))
 
-returns-4 : tie.Need-returns-4
+returns-4 : tie.Need-returns-else-count-n
 unfolding chunk_refusal
 returns-4 c =
-    let t = c.before.before in
-    let a = t.before.args in
-    simp (t.if1.false, c.before.if2.false, le-ltb max_count (a.count + a.n) (omega (arith, c.if3.false)))
+    let a = c.args in
+    simp (c.if-not-page.false, c.if-not-chars.false, le-ltb max_count (a.count + a.n) (omega (arith, c.if-count-n.false)))
 
-pub chunk-refusal-spec : {M : Type 1} → statement M
-chunk-refusal-spec = tie.close (tie.spec (λ c. search rules) returns returns-2 returns-3 returns-4)
+pub chunk_refusal_spec : {M : Type 1} → statement M
+chunk_refusal_spec = tie.close (tie.spec (λ c. search rules) returns returns-2 returns-3 returns-4)

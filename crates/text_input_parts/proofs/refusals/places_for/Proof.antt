@@ -11,7 +11,7 @@ some : (n x : ℕ) → (n ≡ 0 → ⊥) → x ≡ places_for_chunk (suc (n - 1)
 some zero x f h = absurd (f refl)
 some (suc n) x f h = omega (arith, h)
 
-pub places-for-spec : {M : Type 1} → statement M
-places-for-spec =
+pub places_for_spec : {M : Type 1} → statement M
+places_for_spec =
     tie.close
-    (tie.spec (λ c. simp c.if1.true) (λ c. search rules) (λ c. search rules) (λ c. some _ _ c.if1.false (omega arith)))
+    (tie.spec (λ c. simp c.if-n-eq0.true) (λ c. search rules) (λ c. search rules) (λ c. some _ _ c.if-n-eq0.false (omega arith)))

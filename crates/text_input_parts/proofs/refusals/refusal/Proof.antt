@@ -9,22 +9,19 @@ use Rattle.text_input_parts.proofs.Passed.{chunk_passed}
 use Rattle.text_input_parts.proofs.refusals.refusal.Statement.{statement}
 use Rattle.text_input_parts.proofs.refusals.refusal.Tie as tie
 
-places-for-requires : tie.Need-places-for-requires
+places-for-requires : tie.Need-places_for-requires
 places-for-requires c κs =
-    let n = c.before in
-    let a = n.before.args in
-    omega (arith, (chunk_passed a.count a.page a.chars a.n (sym n.chunk-refusal.ensures ∙ c.if1.true)).counts)
+    let a = c.args in
+    omega (arith, (chunk_passed a.count a.page a.chars a.n (sym c.chunk_refusal-no.ensures ∙ c.if-no-eq0.true)).counts)
 
-returns : tie.Need-returns
+returns : tie.Need-returns-then-no-eq0
 unfolding refusal_of
 returns c =
-    let p = c.before in
-    let t = p.before in
-    simp (← t.before.chunk-refusal.ensures, eq-eqb _ 0 t.if1.true, ← p.places-for.ensures, c.room-refusal.ensures)
+    simp (← c.chunk_refusal-no.ensures, eq-eqb _ 0 c.if-no-eq0.true, ← c.places_for.ensures, c.room_refusal.ensures)
 
-returns-2 : tie.Need-returns-2
+returns-2 : tie.Need-returns-else-no-eq0
 unfolding refusal_of
-returns-2 c = simp (← c.before.chunk-refusal.ensures, ne_eqb _ 0 c.if1.false)
+returns-2 c = simp (← c.chunk_refusal-no.ensures, ne_eqb _ 0 c.if-no-eq0.false)
 
-pub refusal-spec : {M : Type 1} → statement M
-refusal-spec = tie.close (tie.spec (λ c κs. search rules) places-for-requires (λ c κs. search rules) returns returns-2)
+pub refusal_spec : {M : Type 1} → statement M
+refusal_spec = tie.close (tie.spec (λ c κs. search rules) places-for-requires (λ c κs. search rules) returns returns-2)

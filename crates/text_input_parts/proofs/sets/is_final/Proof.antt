@@ -8,5 +8,5 @@ returns : tie.Need-returns
 unfolding final
 returns c = refl
 
-pub is-final-spec : {M : Type 1} → statement M
-is-final-spec = tie.close (tie.spec returns)
+pub is_final_spec : {M : Type 1} → statement M
+is_final_spec = tie.close (tie.spec returns)

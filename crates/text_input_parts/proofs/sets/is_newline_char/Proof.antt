@@ -8,5 +8,5 @@ returns : tie.Need-returns
 unfolding newline_char
 returns c = refl
 
-pub is-newline-char-spec : {M : Type 1} → statement M
-is-newline-char-spec = tie.close (tie.spec returns)
+pub is_newline_char_spec : {M : Type 1} → statement M
+is_newline_char_spec = tie.close (tie.spec returns)

@@ -8,5 +8,5 @@ returns : tie.Need-returns
 unfolding parameter
 returns c = refl
 
-pub is-parameter-spec : {M : Type 1} → statement M
-is-parameter-spec = tie.close (tie.spec returns)
+pub is_parameter_spec : {M : Type 1} → statement M
+is_parameter_spec = tie.close (tie.spec returns)

@@ -8,5 +8,5 @@ returns : tie.Need-returns
 unfolding string_end
 returns c = refl
 
-pub is-string-end-spec : {M : Type 1} → statement M
-is-string-end-spec = tie.close (tie.spec returns)
+pub is_string_end_spec : {M : Type 1} → statement M
+is_string_end_spec = tie.close (tie.spec returns)

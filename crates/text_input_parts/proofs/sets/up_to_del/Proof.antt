@@ -8,5 +8,5 @@ returns : tie.Need-returns
 unfolding up_to7_f
 returns c = refl
 
-pub up-to-del-spec : {M : Type 1} → statement M
-up-to-del-spec = tie.close (tie.spec returns)
+pub up_to_del_spec : {M : Type 1} → statement M
+up_to_del_spec = tie.close (tie.spec returns)

@@ -4,5 +4,5 @@ use Rattle.text_output.specs.Close.{abandon_of}
 use Rattle.text_output.proofs.TextOutput.abandon.Statement.{statement}
 use Rattle.text_output.proofs.TextOutput.abandon.Tie as tie
 
-pub abandon-spec : {M : Type 1} → statement M
-abandon-spec = tie.close (tie.spec (λ c. unfold abandon_of in refl))
+pub abandon_spec : {M : Type 1} → statement M
+abandon_spec = tie.close (tie.spec (λ c. unfold abandon_of in refl))

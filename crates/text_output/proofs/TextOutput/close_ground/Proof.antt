@@ -3,23 +3,23 @@ use borrow.Author.Rules.{rules}
 use Rattle.text_output.proofs.TextOutput.close_ground.Statement.{statement}
 use Rattle.text_output.proofs.TextOutput.close_ground.Tie as tie
 
-enum_told : tie.Need-enum-told
+enum_told : tie.Need-enum_told-1
 enum_told c = search rules
 
-returns : tie.Need-returns
+returns : tie.Need-returns-in-Newline
 returns c =
-    simp (c.expecting.ensures, c.before.enum_told.given.1)
+    simp (c.expecting.ensures, c.in-Newline.is)
 
-returns-2 : tie.Need-returns-2
+returns-2 : tie.Need-returns-in-ZwjOrPrepend
 returns-2 c =
-    rw c.before.enum-told2.given.1 c.closed_by.ensures
+    rw c.in-ZwjOrPrepend.is c.closed_by.ensures
 
-returns-3 : tie.Need-returns-3
+returns-3 : tie.Need-returns-in-Other
 returns-3 c =
-    rw c.before.enum-told3.given.1 c.closed-by2.ensures
+    rw c.in-Other.is c.closed_by-in-Other.ensures
 
-pub close-ground-spec : {M : Type 1} → statement M
-close-ground-spec =
+pub close_ground_spec : {M : Type 1} → statement M
+close_ground_spec =
     tie.close
     (tie.spec
     enum_told

@@ -3,23 +3,23 @@ use borrow.Author.Rules.{rules}
 use Rattle.text_output.proofs.TextOutput.close_in.Statement.{statement}
 use Rattle.text_output.proofs.TextOutput.close_in.Tie as tie
 
-enum_told : tie.Need-enum-told
+enum_told : tie.Need-enum_told-1
 enum_told c = search rules
 
-returns : tie.Need-returns
+returns : tie.Need-returns-in-Ground
 returns c =
-    rw c.before.before.state.given.1 c.close-ground.ensures
+    rw c.in-Ground.is c.close_ground.ensures
 
-returns-2 : tie.Need-returns-2
+returns-2 : tie.Need-returns-in-Esc
 returns-2 c =
-    rw c.before.enum_told.given.1 c.closed_by.ensures
+    rw c.in-Esc.is c.closed_by.ensures
 
-returns-3 : tie.Need-returns-3
+returns-3 : tie.Need-returns-in-Csi
 returns-3 c =
-    rw c.before.enum-told2.given.1 c.closed-by2.ensures
+    rw c.in-Csi.is c.closed_by-in-Csi.ensures
 
-pub close-in-spec : {M : Type 1} → statement M
-close-in-spec =
+pub close_in_spec : {M : Type 1} → statement M
+close_in_spec =
     tie.close
     (tie.spec
     (λ c. search rules)

@@ -6,7 +6,7 @@ use Rattle.text_output.proofs.TextOutput.closed_by.Tie as tie
 
 returns : tie.Need-returns
 returns c =
-    unfold abandon_of in simp (c.abandon.ensures, c.before.expecting.ensures)
+    unfold abandon_of in simp (c.abandon.ensures, c.expecting.ensures)
 
-pub closed-by-spec : {M : Type 1} → statement M
-closed-by-spec = tie.close (tie.spec (λ c κs. search rules) (λ c κs. search rules) returns)
+pub closed_by_spec : {M : Type 1} → statement M
+closed_by_spec = tie.close (tie.spec (λ c κs. search rules) (λ c κs. search rules) returns)

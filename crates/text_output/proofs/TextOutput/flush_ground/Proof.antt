@@ -4,8 +4,8 @@ use Rattle.text_output.specs.Close.{abandon_of}
 use Rattle.text_output.proofs.TextOutput.flush_ground.Statement.{statement}
 use Rattle.text_output.proofs.TextOutput.flush_ground.Tie as tie
 
-pub flush-ground-spec : {M : Type 1} → statement M
-flush-ground-spec =
+pub flush_ground_spec : {M : Type 1} → statement M
+flush_ground_spec =
     tie.close
     (tie.spec
     (λ c. search rules)
@@ -14,6 +14,6 @@ flush-ground-spec =
     (λ c κs. search rules)
     (λ c. search rules)
     (λ c κs. search rules)
-    (λ c. simp (c.expecting.ensures, c.before.enum_told.given.1))
-    (λ c. unfold abandon_of in simp (c.abandon.ensures, c.before.enum-told2.given.1))
-    (λ c. simp (c.expecting2.ensures, c.before.enum-told3.given.1)))
+    (λ c. simp (c.expecting.ensures, c.in-Newline.is))
+    (λ c. unfold abandon_of in simp (c.abandon.ensures, c.in-ZwjOrPrepend.is))
+    (λ c. simp (c.expecting-in-Other.ensures, c.in-Other.is)))

@@ -6,17 +6,17 @@ use borrow.Author.Rules.{rules}
 use Rattle.text_output_write.proofs.end.end_write.Statement.{statement}
 use Rattle.text_output_write.proofs.end.end_write.Tie as tie
 
-returns : tie.Need-returns
+returns : tie.Need-returns-in-On
 returns c =
-    rw c.before.before.pushed.given.1 c.hand-out.ensures
+    rw c.in-On.is c.hand_out.ensures
 
-returns-2 : tie.Need-returns-2
+returns-2 : tie.Need-returns-in-Stopped
 returns-2 c =
-    rw c.before.before.pushed2.given.1
-    (ap (λ (g : Given). record { given = g; places = c.before.before.before.before.before.args.first ∷ [] }) c.keep.ensures)
+    rw c.in-Stopped.is
+    (ap (λ (g : Given). record { given = g; places = c.args.first ∷ [] }) c.keep.ensures)
 
-pub end-write-spec : {M : Type 1} → statement M
-end-write-spec =
+pub end_write_spec : {M : Type 1} → statement M
+end_write_spec =
     tie.close
     (tie.spec
     (λ c. search rules)

@@ -12,9 +12,9 @@ none_first : (l : List ℕ) → length l ≡ 0 → 0 ≡ get_or l 0 0
 none_first [] h = refl
 none_first (x ∷ l) h = absurd (omega (arith, h))
 
-returns : tie.Need-returns
+returns : tie.Need-returns-then-out-eq0
 returns c =
-    none_first c.before.args.out.now c.if1.true
+    none_first c.args.out.now c.if-out-eq0.true
 
-pub first-of-spec : {M : Type 1} → statement M
-first-of-spec = tie.close (tie.spec returns (λ c. search rules) (λ c. search rules))
+pub first_of_spec : {M : Type 1} → statement M
+first_of_spec = tie.close (tie.spec returns (λ c. search rules) (λ c. search rules))

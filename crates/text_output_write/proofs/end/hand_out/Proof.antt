@@ -6,15 +6,15 @@ use borrow.Author.Rules.{rules}
 use Rattle.text_output_write.proofs.end.hand_out.Statement.{statement}
 use Rattle.text_output_write.proofs.end.hand_out.Tie as tie
 
-returns : tie.Need-returns
+returns : tie.Need-returns-then-expect_starter-start_or_none
 returns c =
-    let t = rw (c.before.start-or-none.ensures, not-not) at c.if1.true in
+    let t = rw (c.start_or_none.ensures, not-not) at c.if-expect_starter-start_or_none.true in
     unfold machine_at in rw t refl
 
-returns-2 : tie.Need-returns-2
+returns-2 : tie.Need-returns-else-expect_starter-start_or_none
 returns-2 c =
-    let t = rw (c.before.start-or-none.ensures, not-not) at c.if1.false in
+    let t = rw (c.start_or_none.ensures, not-not) at c.if-expect_starter-start_or_none.false in
     unfold machine_at in rw t refl
 
-pub hand-out-spec : {M : Type 1} → statement M
-hand-out-spec = tie.close (tie.spec (λ c κs. search rules) returns returns-2)
+pub hand_out_spec : {M : Type 1} → statement M
+hand_out_spec = tie.close (tie.spec (λ c κs. search rules) returns returns-2)

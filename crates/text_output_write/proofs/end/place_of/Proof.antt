@@ -8,5 +8,5 @@ returns : tie.Need-returns
 returns c =
     (unfold machine_at in refl, refl)
 
-pub place-of-spec : {M : Type 1} → statement M
-place-of-spec = tie.close (tie.spec returns)
+pub place_of_spec : {M : Type 1} → statement M
+place_of_spec = tie.close (tie.spec returns)

@@ -4,16 +4,16 @@ use borrow.Author.Rules.{rules}
 use Rattle.text_output_write.proofs.end.refused.Statement.{statement}
 use Rattle.text_output_write.proofs.end.refused.Tie as tie
 
-enum_told : tie.Need-enum-told
+enum_told : tie.Need-enum_told-1
 enum_told c = search rules
 
-returns : tie.Need-returns
+returns : tie.Need-returns-in-Reason
 returns c =
-    rw c.before.stop.given.1 (refl, refl)
+    rw c.in-Reason.is (refl, refl)
 
-returns-2 : tie.Need-returns-2
+returns-2 : tie.Need-returns-in-Limit
 returns-2 c =
-    rw c.enum_told.given.1 (refl, refl)
+    rw c.in-Limit.is (refl, refl)
 
-pub refused-spec : {M : Type 1} → statement M
-refused-spec = tie.close (tie.spec (λ c. search rules) enum_told returns returns-2)
+pub refused_spec : {M : Type 1} → statement M
+refused_spec = tie.close (tie.spec (λ c. search rules) enum_told returns returns-2)

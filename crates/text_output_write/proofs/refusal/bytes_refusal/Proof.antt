@@ -3,5 +3,5 @@ use mathlib.Core.Path.{refl}
 use Rattle.text_output_write.proofs.refusal.bytes_refusal.Statement.{statement}
 use Rattle.text_output_write.proofs.refusal.bytes_refusal.Tie as tie
 
-pub bytes-refusal-spec : {M : Type 1} → statement M
-bytes-refusal-spec = tie.close (tie.spec (λ c. rw c.if1.true refl) (λ c. rw c.if1.false refl))
+pub bytes_refusal_spec : {M : Type 1} → statement M
+bytes_refusal_spec = tie.close (tie.spec (λ c. rw c.if-bytes-chars.true refl) (λ c. rw c.if-bytes-chars.false refl))

@@ -13,11 +13,10 @@ use borrow.Author.Rules.{rules}
 use Rattle.text_output_write.proofs.run.push_isolated.Statement.{statement}
 use Rattle.text_output_write.proofs.run.push_isolated.Tie as tie
 
-push-joiner-requires : tie.Need-push-joiner-requires
+push-joiner-requires : tie.Need-push_joiner-before-requires
 push-joiner-requires c κs =
-    let s = c.before.before.before in
-    let a = s.args in
-    let p = s.requires in
+    let a = c.args in
+    let p = c.requires in
     let m = machine_at a.w a.escape.now in
     let first = steps_of a.mode m [] (joiner a.put) in
     let more : Machine → Stepped = λ next. write_step_of a.mode next [] a.c in
@@ -26,48 +25,43 @@ push-joiner-requires c κs =
 
 push-requires : tie.Need-push-requires
 push-requires c κs =
-    let j = c.before.before.before.before.before.before.before in
-    let s = j.before.before.before.before in
-    let a = s.args in
-    let p = s.requires in
+    let a = c.args in
+    let p = c.requires in
     let m = machine_at a.w a.escape.now in
     let first = steps_of a.mode m [] (joiner a.put) in
     let more : Machine → Stepped = λ next. write_step_of a.mode next [] a.c in
     let room = rw (steps_joined a.mode a.put m [] a.c) at p.1.1 in
     let stays = steps_stay a.mode (joiner a.put) m [] p.1.0 in
-    let e = rw c.before.before.before.before2.given.1 at j.push-joiner.ensures in (
+    let e = rw c.in-On.is at c.push_joiner-before.ensures in (
       p.0,
       (next_sound a.w a.escape.now a.out.now first _ stays _ _ _ e, next_room a.w a.escape.now a.out.now first _ stays _ _ _ e more room),
     )
 
-enum_told : tie.Need-enum-told
+enum_told : tie.Need-enum_told-1
 enum_told c = search rules
 
-returns : tie.Need-returns
+returns : tie.Need-returns-in-On
 returns c =
-    let b = c.before.before.before.before.before.before in
-    let j = b.before.before.before.before in
-    let a = j.before.before.before.before.args in
+    let a = c.args in
     let m = machine_at a.w a.escape.now in
     let first = steps_of a.mode m [] (joiner a.put) in
     let more : Machine → Stepped = λ next. write_step_of a.mode next [] a.c in
-    let e = rw b.before2.given.1 at j.push-joiner.ensures in
+    let e = rw c.in-On.is at c.push_joiner-before.ensures in
     rw (steps_joined a.mode a.put m [] a.c)
-    (c.before.before.push.ensures ∙ on_then a.w.at a.out.now more first _ _ _ e)
+    (c.push.ensures ∙ on_then a.w.at a.out.now more first _ _ _ e)
 
-returns-2 : tie.Need-returns-2
+returns-2 : tie.Need-returns-in-Stopped
 returns-2 c =
-    let j = c.before.before.before.before in
-    let a = j.before.before.before.before.args in
+    let a = c.args in
     let m = machine_at a.w a.escape.now in
     let first = steps_of a.mode m [] (joiner a.put) in
     let more : Machine → Stepped = λ next. write_step_of a.mode next [] a.c in
-    let e = rw c.enum_told.given.1 at j.push-joiner.ensures in
-    rw (steps_joined a.mode a.put m [] a.c, c.enum_told.given.1)
-    (off_then a.w.at a.out.now more first _ c.enum_told.given.0.1.0 _ _ e)
+    let e = rw c.in-Stopped.is at c.push_joiner-before.ensures in
+    rw (steps_joined a.mode a.put m [] a.c, c.in-Stopped.is)
+    (off_then a.w.at a.out.now more first _ c.in-Stopped.field-1 _ _ e)
 
-pub push-isolated-spec : {M : Type 1} → statement M
-push-isolated-spec =
+pub push_isolated_spec : {M : Type 1} → statement M
+push_isolated_spec =
     tie.close
     (tie.spec
     push-joiner-requires

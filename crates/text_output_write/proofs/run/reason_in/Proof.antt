@@ -3,8 +3,8 @@ use borrow.Author.Rules.{rules}
 use Rattle.text_output_write.proofs.run.reason_in.Statement.{statement}
 use Rattle.text_output_write.proofs.run.reason_in.Tie as tie
 
-returns-2 : tie.Need-returns-2
-returns-2 c = absurd (c.before.before.requires c.enum_told.given.1)
+returns-2 : tie.Need-returns-in-Ok
+returns-2 c = absurd (c.requires c.in-Ok.is)
 
-pub reason-in-spec : {M : Type 1} → statement M
-reason-in-spec = tie.close (tie.spec (λ c. search rules) (λ c. search rules) (λ c. search rules) returns-2)
+pub reason_in_spec : {M : Type 1} → statement M
+reason_in_spec = tie.close (tie.spec (λ c. search rules) (λ c. search rules) (λ c. search rules) returns-2)

@@ -9,58 +9,47 @@ use Rattle.text_output_write.proofs.Runs.{LeftOn, Going, begin, again, stopped, 
 use Rattle.text_output_write.proofs.run.run.Statement.{statement}
 use Rattle.text_output_write.proofs.run.run.Tie as tie
 
-abbrev invariant-loop : tie.invariant-loop
+abbrev invariant-loop : tie.invariant-loop-i
 invariant-loop page mode chars escape₀ out₀ w₀ isolator₀ i₀ escape out w isolator i =
     Going (Chars chars) page mode w₀ escape₀ out₀ chars w isolator i escape out
 
-abbrev decreases-loop : tie.decreases-loop
+abbrev decreases-loop : tie.decreases-loop-i
 decreases-loop page mode chars escape₀ out₀ w₀ isolator₀ i₀ escape out w isolator i = length chars - i
 
 -- in the loop, from its head on
-abbrev entry : tie.At-loop invariant-loop decreases-loop → tie.Start invariant-loop decreases-loop
-entry h = h.before.before.before.before.before
+on : (l : tie.In-loop-i invariant-loop decreases-loop) →
+    let chars = l.args.chars.now in
+    LeftOn (Chars chars) (get_or chars l.loop-i.i 0) (l.loop-i.i + 1) l.loop-i.invariant.cs
+on l = chars_on _ _ _ l.loop-i.invariant.left l.loop-i-test.true
 
-on : (l : tie.In-loop invariant-loop decreases-loop) →
-    let h = l.before in
-    let chars = (entry h).args.chars.now in
-    LeftOn (Chars chars) (get_or chars h.loop.i 0) (h.loop.i + 1) h.loop.invariant.cs
-on l = chars_on _ _ _ l.before.loop.invariant.left l.loop-test.true
-
-loop-holds : tie.Need-loop-init invariant-loop decreases-loop
+loop-holds : tie.Need-loop-i-init invariant-loop decreases-loop
 loop-holds c =
-    begin c.before.before.before.before.requires (record { within = omega arith; is = refl }) _ c.new.ensures
+    begin c.requires (record { within = omega arith; is = refl }) _ c.new-isolator.ensures
 
-turn-requires : tie.Need-turn-requires invariant-loop decreases-loop
+turn-requires : tie.Need-turn-turned-requires invariant-loop decreases-loop
 turn-requires c κs =
-    let l = c.before.before.before in turn_asks l.before.loop.invariant (on l) (entry l.before).pre
+    turn_asks c.loop-i.invariant (on c.before.before.before) c.requires
 
-loop-again : tie.Need-loop-preserved invariant-loop decreases-loop
+loop-again : tie.Need-loop-i-preserved invariant-loop decreases-loop
 loop-again c =
-    let t = c.before.before.before.before.before.before in
-    let l = t.before.before.before.before in
-    again l.before.loop.invariant (on l) (rw c.before.pushed.given.1 at t.turn.ensures.0) t.turn.ensures.1
+    again c.loop-i.invariant (on c.before.before.before.before.before.before.before.before) (rw c.in-On.is at c.turn-turned.ensures.0) c.turn-turned.ensures.1
 
-enum_told : tie.Need-enum-told invariant-loop decreases-loop
+enum_told : tie.Need-enum_told-1 invariant-loop decreases-loop
 enum_told c = search rules
 
-returns : tie.Need-returns invariant-loop decreases-loop
+returns : tie.Need-returns-in-Stopped invariant-loop decreases-loop
 returns c =
-    let t = c.before.before.before.before.before in
-    let l = t.before.before.before.before in
-    rw c.enum_told.given.1 (stopped l.before.loop.invariant (on l) (rw c.enum_told.given.1 at t.turn.ensures.0) refl)
+    rw c.in-Stopped.is (stopped c.loop-i.invariant (on c.before.before.before.before.before.before.before.before) (rw c.in-Stopped.is at c.turn-turned.ensures.0) refl)
 
 finish-requires : tie.Need-finish-requires invariant-loop decreases-loop
 finish-requires c κs =
-    let l = c.before.before in
-    let g = l.before.loop.invariant in
-    finish_asks g (chars_end _ _ _ g.left (omega (arith, l.loop-test.false))) (entry l.before).pre
+    let g = c.loop-i.invariant in
+    finish_asks g (chars_end _ _ _ g.left (omega (arith, c.loop-i-test.false))) c.requires
 
-returns-2 : tie.Need-returns-2 invariant-loop decreases-loop
+returns-2 : tie.Need-returns invariant-loop decreases-loop
 returns-2 c =
-    let f = c.before.before in
-    let l = f.before.before.before in
-    let g = l.before.loop.invariant in
-    ended g (chars_end _ _ _ g.left (omega (arith, l.loop-test.false))) f.finish.ensures
+    let g = c.loop-i.invariant in
+    ended g (chars_end _ _ _ g.left (omega (arith, c.loop-i-test.false))) c.finish.ensures
 
 pub run_spec : {M : Type 1} → statement M
 run_spec =

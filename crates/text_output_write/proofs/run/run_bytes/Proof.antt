@@ -12,70 +12,56 @@ use Rattle.text_output_write.proofs.Runs.{LeftOn, Going, begin, again, stopped, 
 use Rattle.text_output_write.proofs.run.run_bytes.Statement.{statement}
 use Rattle.text_output_write.proofs.run.run_bytes.Tie as tie
 
-abbrev invariant-loop : tie.invariant-loop
+abbrev invariant-loop : tie.invariant-loop-c
 invariant-loop page mode bytes escape₀ out₀ w₀ isolator₀ place₀ escape out w isolator place =
     Going (Bytes bytes) page mode w₀ escape₀ out₀ (chars_of bytes) w isolator place escape out
 
-abbrev decreases-loop : tie.decreases-loop
+abbrev decreases-loop : tie.decreases-loop-c
 decreases-loop page mode bytes escape₀ out₀ w₀ isolator₀ place₀ escape out w isolator place = length bytes - place
 
 -- in the loop, from its head on: a character begins, or none does
-abbrev entry : tie.At-loop invariant-loop decreases-loop → tie.Start invariant-loop decreases-loop
-entry h = h.before.before.before.before.before
-
-on : (l : tie.After-c invariant-loop decreases-loop) →
-    let h = l.before.before.before in
-    LeftOn (Bytes (entry h).args.bytes.now) l.c.given.0.0 l.c.given.0.1.0 h.loop.invariant.cs
+on : (l : tie.In-Char invariant-loop decreases-loop) →
+    LeftOn (Bytes l.args.bytes.now) l.in-Char.c l.in-Char.next_place l.loop-c.invariant.cs
 on l =
-    let u = l.before.before in bytes_on _ _ _ _ _ u.before.loop.invariant.left (sym u.utf8-step.ensures ∙ l.c.given.1)
+    bytes_on _ _ _ _ _ l.loop-c.invariant.left (sym l.utf8_step.ensures ∙ l.in-Char.is)
 
-none : (l : tie.After-enum-told invariant-loop decreases-loop) → l.before.before.before.loop.invariant.cs ≡ []
+none : (l : tie.In_default invariant-loop decreases-loop) → l.loop-c.invariant.cs ≡ []
 none l =
-    let u = l.before.before in bytes_end _ _ _ u.before.loop.invariant.left (sym u.utf8-step.ensures ∙ l.enum_told.given.1)
+    bytes_end _ _ _ l.loop-c.invariant.left (sym l.utf8_step.ensures ∙ l.in_default.is)
 
-loop-holds : tie.Need-loop-init invariant-loop decreases-loop
+loop-holds : tie.Need-loop-c-init invariant-loop decreases-loop
 loop-holds c =
-    begin c.before.before.before.before.requires (bytes_begin _) _ c.new.ensures
+    begin c.requires (bytes_begin _) _ c.new-isolator.ensures
 
-enum_told : tie.Need-enum-told invariant-loop decreases-loop
+enum_told : tie.Need-enum_told-1 invariant-loop decreases-loop
 enum_told c = search rules
 
-turn-requires : tie.Need-turn-requires invariant-loop decreases-loop
+turn-requires : tie.Need-turn-turned-requires invariant-loop decreases-loop
 turn-requires c κs =
-    let l = c.before.before.before in
-    let h = l.before.before.before in
-    turn_asks h.loop.invariant (on l) (entry h).requires
+    turn_asks c.loop-c.invariant (on c.before.before) c.requires
 
-loop-less : tie.Need-loop-smaller invariant-loop decreases-loop
+loop-less : tie.Need-loop-c-smaller invariant-loop decreases-loop
 loop-less c =
-    let l = c.before.before.before.before.before.before.before.before.before.before in omega (arith, step_on _ _ _ _ (sym l.before.before.utf8-step.ensures ∙ l.c.given.1))
+    omega (arith, step_on _ _ _ _ (sym c.utf8_step.ensures ∙ c.in-Char.is))
 
-loop-again : tie.Need-loop-preserved invariant-loop decreases-loop
+loop-again : tie.Need-loop-c-preserved invariant-loop decreases-loop
 loop-again c =
-    let t = c.before.before.before.before.before.before in
-    let l = t.before.before.before.before in
-    again l.before.before.before.loop.invariant (on l) (rw c.before.pushed.given.1 at t.turn.ensures.0) t.turn.ensures.1
+    again c.loop-c.invariant (on c.before.before.before.before.before.before.before) (rw c.in-On.is at c.turn-turned.ensures.0) c.turn-turned.ensures.1
 
-returns : tie.Need-returns invariant-loop decreases-loop
+returns : tie.Need-returns-in-Stopped invariant-loop decreases-loop
 returns c =
-    let t = c.before.before.before.before.before in
-    let l = t.before.before.before.before in
-    rw c.enum-told2.given.1 (stopped l.before.before.before.loop.invariant (on l) (rw c.enum-told2.given.1 at t.turn.ensures.0) refl)
+    rw c.in-Stopped.is (stopped c.loop-c.invariant (on c.before.before.before.before.before.before.before) (rw c.in-Stopped.is at c.turn-turned.ensures.0) refl)
 
 finish-requires : tie.Need-finish-requires invariant-loop decreases-loop
 finish-requires c κs =
-    let l = c.before.before in
-    let h = l.before.before.before in
-    finish_asks h.loop.invariant (none l) (entry h).requires
+    finish_asks c.loop-c.invariant (none c.before.before) c.requires
 
-returns-2 : tie.Need-returns-2 invariant-loop decreases-loop
+returns-2 : tie.Need-returns invariant-loop decreases-loop
 returns-2 c =
-    let f = c.before.before in
-    let l = f.before.before.before in
-    ended l.before.before.before.loop.invariant (none l) f.finish.ensures
+    ended c.loop-c.invariant (none c.before.before.before.before.before) c.finish.ensures
 
-pub run-bytes-spec : {M : Type 1} → statement M
-run-bytes-spec =
+pub run_bytes_spec : {M : Type 1} → statement M
+run_bytes_spec =
     tie.close
     (tie.spec
     invariant-loop

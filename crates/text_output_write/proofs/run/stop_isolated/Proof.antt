@@ -14,11 +14,10 @@ use borrow.Author.Rules.{rules}
 use Rattle.text_output_write.proofs.run.stop_isolated.Statement.{statement}
 use Rattle.text_output_write.proofs.run.stop_isolated.Tie as tie
 
-push-joiner-requires : tie.Need-push-joiner-requires
+push-joiner-requires : tie.Need-push_joiner-before-requires
 push-joiner-requires c κs =
-    let s = c.before.before.before in
-    let a = s.args in
-    let p = s.requires in
+    let a = c.args in
+    let p = c.requires in
     let error = reason_numbers a.kept.error in
     let m = machine_at a.w a.escape.now in
     let first = steps_of a.mode m [] (joiner a.put) in
@@ -26,38 +25,34 @@ push-joiner-requires c κs =
     let room = rw (steps_joined a.mode a.put m error 0x1A) at p.1.1 in
     (p.1.0, omega (arith, room, first_fits first more))
 
-enum_told : tie.Need-enum-told
+enum_told : tie.Need-enum_told-1
 enum_told c = search rules
 
-returns : tie.Need-returns
+returns : tie.Need-returns-in-On
 returns c =
-    let r = c.before in
-    let b = r.before.before in
-    let j = b.before.before.before.before in
-    let a = j.before.before.before.before.args in
+    let a = c.args in
     let error = reason_numbers a.kept.error in
     let m = machine_at a.w a.escape.now in
     let first = steps_of a.mode m [] (joiner a.put) in
     let more : Machine → Stepped = λ next. write_step_of a.mode next error 0x1A in
-    let e = rw b.before2.given.1 at j.push-joiner.ensures in
-    let s = rw r.reason-in.ensures at c.stop-in.ensures in
+    let e = rw c.in-On.is at c.push_joiner-before.ensures in
+    let s = rw c.reason_in.ensures at c.stop_in.ensures in
     rw (steps_joined a.mode a.put m error 0x1A)
-    (stop_stored a.mode _ _ _ error c.stop-in.result s ∙ on_then a.w.at a.out.now more first _ _ _ e)
+    (stop_stored a.mode _ _ _ error c.stop_in.result s ∙ on_then a.w.at a.out.now more first _ _ _ e)
 
-returns-2 : tie.Need-returns-2
+returns-2 : tie.Need-returns-in-Stopped
 returns-2 c =
-    let j = c.before.before.before.before in
-    let a = j.before.before.before.before.args in
+    let a = c.args in
     let error = reason_numbers a.kept.error in
     let m = machine_at a.w a.escape.now in
     let first = steps_of a.mode m [] (joiner a.put) in
     let more : Machine → Stepped = λ next. write_step_of a.mode next error 0x1A in
-    let e = rw c.enum_told.given.1 at j.push-joiner.ensures in
-    rw (steps_joined a.mode a.put m error 0x1A, c.enum_told.given.1)
-    (off_then a.w.at a.out.now more first _ c.enum_told.given.0.1.0 _ _ e)
+    let e = rw c.in-Stopped.is at c.push_joiner-before.ensures in
+    rw (steps_joined a.mode a.put m error 0x1A, c.in-Stopped.is)
+    (off_then a.w.at a.out.now more first _ c.in-Stopped.field-1 _ _ e)
 
-pub stop-isolated-spec : {M : Type 1} → statement M
-stop-isolated-spec =
+pub stop_isolated_spec : {M : Type 1} → statement M
+stop_isolated_spec =
     tie.close
     (tie.spec
     push-joiner-requires

@@ -11,93 +11,71 @@ use Rattle.text_output_write.proofs.run.turn.Statement.{statement}
 use Rattle.text_output_write.proofs.run.turn.Tie as tie
 
 -- whether 0A ends a part
-ends-part : (t : tie.Then1) → let a = t.before.before.before.before.args in is_crlf a.mode && eqb a.c 0x0A ≡ true
-ends-part t = rw t.before.is-crlf.ensures at t.if1.true
+ends-part : (t : tie.Then-is_crlf-c) → let a = t.args in is_crlf a.mode && eqb a.c 0x0A ≡ true
+ends-part t = rw t.is_crlf.ensures at t.if-is_crlf-c.true
 
-goes_on : (e : tie.Else1) → let a = e.before.before.before.before.args in is_crlf a.mode && eqb a.c 0x0A ≡ false
-goes_on e = rw e.before.is-crlf.ensures at e.if1.false
+goes_on : (e : tie.Else-is_crlf-c) → let a = e.args in is_crlf a.mode && eqb a.c 0x0A ≡ false
+goes_on e = rw e.is_crlf.ensures at e.if-is_crlf-c.false
 
-line-end-requires : tie.Need-line-end-requires
+line-end-requires : tie.Need-line_end-requires
 line-end-requires c κs =
-    let s = c.before.before.before.before.before.before.before in
-    let a = s.args in
-    let p = s.requires in
-    let e = turn_end a.mode a.page.now (machine_at a.w a.escape.now) a.isolator a.c (ends-part c.before.before.before) _ c.before.before.finish.ensures in
+    let a = c.args in
+    let p = c.requires in
+    let e = turn_end a.mode a.page.now (machine_at a.w a.escape.now) a.isolator a.c (ends-part c.before.before.before) _ c.finish.ensures in
     (p.1.0, rw e at p.1.1)
 
 -- what `Categorize` answered
-told : (c : tie.After-step) →
-    let a = c.before.before.before.before.before.before.args in categorized_numbers c.step.result ≡ categorize_of unrefused a.c
-told c = rw c.before.new2.ensures at c.step.ensures
+told : (c : tie.After-step-found) →
+    let a = c.args in categorized_numbers c.step-found.result ≡ categorize_of unrefused a.c
+told c = rw c.new-else-is_crlf-c.ensures at c.step-found.ensures
 
-handed : (c : tie.After-handed-on) →
-    let a = c.before.before.before.before.before.before.before.args in c.handed-on.result ≡ checked a.c
-handed c = c.handed-on.ensures ∙ handed_checked _ c.before.step.result (told c.before)
+handed : (c : tie.After-handed_on) →
+    let a = c.args in c.handed_on.result ≡ checked a.c
+handed c = c.handed_on.ensures ∙ handed_checked _ c.step-found.result (told c.before)
 
 -- where the isolator has looked ahead, and what it says of the character checked
-abbrev Step : tie.After-look-ahead → tie.After-step
-Step l = l.before.before
-
-abbrev Branch : tie.After-look-ahead → tie.Else1
-Branch l = (Step l).before.before
-
-abbrev Start : tie.After-look-ahead → tie.Start
-Start l = (Branch l).before.before.before.before
-
-push-isolated-requires : tie.Need-push-isolated-requires
+push-isolated-requires : tie.Need-push_isolated-requires
 push-isolated-requires c κs =
-    let k = c.before.before.before in
-    let l = k.before.before.before in
-    let s = Start l in
-    let a = s.args in
-    let p = s.pre in
-    let q = char_passed a.c _ k.found.given.0.1.0 (sym (ap categorized_numbers k.found.given.1) ∙ told (Step l)) in
-    let put = rw (handed l.before) at l.look-ahead.ensures.0 in
-    let e = turn_passed a.mode a.page.now (machine_at a.w a.escape.now) a.isolator a.c (goes_on (Branch l)) _ q.same q.no_sub _ put in
+    let a = c.args in
+    let p = c.requires in
+    let q = char_passed a.c _ c.in-Char.field-1 (sym (ap categorized_numbers c.in-Char.is) ∙ told c.before.before.before.before.before.before) in
+    let put = rw (handed c.before.before.before.before.before) at c.look_ahead-ahead.ensures.0 in
+    let e = turn_passed a.mode a.page.now (machine_at a.w a.escape.now) a.isolator a.c (goes_on c.before.before.before.before.before.before.before.before) _ q.same q.no_sub _ put in
     (q.no_sub, (p.1.0, rw e at p.1.1))
 
-stop-isolated-requires : tie.Need-stop-isolated-requires
+stop-isolated-requires : tie.Need-stop_isolated-requires
 stop-isolated-requires c κs =
-    let k = c.before.before.before in
-    let l = k.before.before.before in
-    let s = Start l in
-    let a = s.args in
-    let p = s.pre in
-    let q = sub-stops a.c _ k.found2.given.0.1.0 (sym (ap categorized_numbers k.found2.given.1) ∙ told (Step l)) in
-    let put = rw (handed l.before) at l.look-ahead.ensures.0 in
-    let e = turn_refused a.mode a.page.now (machine_at a.w a.escape.now) a.isolator a.c (goes_on (Branch l)) q.is _ q.reason _ put in
+    let a = c.args in
+    let p = c.requires in
+    let q = sub-stops a.c _ c.in-Sub.kept (sym (ap categorized_numbers c.in-Sub.is) ∙ told c.before.before.before.before.before.before) in
+    let put = rw (handed c.before.before.before.before.before) at c.look_ahead-ahead.ensures.0 in
+    let e = turn_refused a.mode a.page.now (machine_at a.w a.escape.now) a.isolator a.c (goes_on c.before.before.before.before.before.before.before.before) q.is _ q.reason _ put in
     (q.some, (p.1.0, rw e at p.1.1))
 
-returns : tie.Need-returns
+returns : tie.Need-returns-then-is_crlf-c
 returns c =
-    let f = c.before.before.before.before.before.before in
-    let t = f.before in
-    let a = t.before.before.before.before.args in
+    let a = c.args in
     let m = machine_at a.w a.escape.now in
-    let e = turn_end a.mode a.page.now m a.isolator a.c (ends-part t) _ f.finish.ensures in
-    (rw e c.before.before.before.line-end.ensures, rw (after_end a.mode a.page.now m a.isolator a.c (ends-part t)) c.new.ensures)
+    let e = turn_end a.mode a.page.now m a.isolator a.c (ends-part c.before.before.before.before.before.before.before) _ c.finish.ensures in
+    (rw e c.line_end.ensures, rw (after_end a.mode a.page.now m a.isolator a.c (ends-part c.before.before.before.before.before.before.before)) c.new.ensures)
 
-returns-2 : tie.Need-returns-2
+returns-2 : tie.Need-returns-in-Char
 returns-2 c =
-    let k = c.before.before.before.before.before.before in
-    let l = k.before.before.before in
-    let a = (Start l).args in
+    let a = c.args in
     let m = machine_at a.w a.escape.now in
-    let q = char_passed a.c _ k.found.given.0.1.0 (sym (ap categorized_numbers k.found.given.1) ∙ told (Step l)) in
-    let same = handed l.before in
-    let e = turn_passed a.mode a.page.now m a.isolator a.c (goes_on (Branch l)) _ q.same q.no_sub _ (rw same at l.look-ahead.ensures.0) in
-    (rw e c.before.before.push-isolated.ensures, rw (after_on a.mode a.page.now m a.isolator a.c (goes_on (Branch l))) (rw same at l.look-ahead.ensures.1))
+    let q = char_passed a.c _ c.in-Char.field-1 (sym (ap categorized_numbers c.in-Char.is) ∙ told c.before.before.before.before.before.before.before.before.before) in
+    let same = handed c.before.before.before.before.before.before.before.before in
+    let e = turn_passed a.mode a.page.now m a.isolator a.c (goes_on c.before.before.before.before.before.before.before.before.before.before.before) _ q.same q.no_sub _ (rw same at c.look_ahead-ahead.ensures.0) in
+    (rw e c.push_isolated.ensures, rw (after_on a.mode a.page.now m a.isolator a.c (goes_on c.before.before.before.before.before.before.before.before.before.before.before)) (rw same at c.look_ahead-ahead.ensures.1))
 
-returns-3 : tie.Need-returns-3
+returns-3 : tie.Need-returns-in-Sub
 returns-3 c =
-    let k = c.before.before.before.before.before.before in
-    let l = k.before.before.before in
-    let a = (Start l).args in
+    let a = c.args in
     let m = machine_at a.w a.escape.now in
-    let q = sub-stops a.c _ k.found2.given.0.1.0 (sym (ap categorized_numbers k.found2.given.1) ∙ told (Step l)) in
-    let same = handed l.before in
-    let e = turn_refused a.mode a.page.now m a.isolator a.c (goes_on (Branch l)) q.is _ q.reason _ (rw same at l.look-ahead.ensures.0) in
-    (rw e c.before.before.stop-isolated.ensures, rw (after_on a.mode a.page.now m a.isolator a.c (goes_on (Branch l))) (rw same at l.look-ahead.ensures.1))
+    let q = sub-stops a.c _ c.in-Sub.kept (sym (ap categorized_numbers c.in-Sub.is) ∙ told c.before.before.before.before.before.before.before.before.before) in
+    let same = handed c.before.before.before.before.before.before.before.before in
+    let e = turn_refused a.mode a.page.now m a.isolator a.c (goes_on c.before.before.before.before.before.before.before.before.before.before.before) q.is _ q.reason _ (rw same at c.look_ahead-ahead.ensures.0) in
+    (rw e c.stop_isolated.ensures, rw (after_on a.mode a.page.now m a.isolator a.c (goes_on c.before.before.before.before.before.before.before.before.before.before.before)) (rw same at c.look_ahead-ahead.ensures.1))
 
 pub turn_spec : {M : Type 1} → statement M
 turn_spec =

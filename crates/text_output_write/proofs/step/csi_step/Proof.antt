@@ -3,5 +3,5 @@ use Rattle.common.proofs.Kit.{tests}
 use Rattle.text_output_write.proofs.step.csi_step.Statement.{statement}
 use Rattle.text_output_write.proofs.step.csi_step.Tie as tie
 
-pub csi-step-spec : {M : Type 1} → statement M
-csi-step-spec = tie.close (tie.spec (λ c. search tests) (λ c. search tests) (λ c. search tests) (λ c. search tests))
+pub csi_step_spec : {M : Type 1} → statement M
+csi_step_spec = tie.close (tie.spec (λ c. search tests) (λ c. search tests) (λ c. search tests) (λ c. search tests))

@@ -3,5 +3,5 @@ use Rattle.common.proofs.Kit.{tests}
 use Rattle.text_output_write.proofs.step.esc_step.Statement.{statement}
 use Rattle.text_output_write.proofs.step.esc_step.Tie as tie
 
-pub esc-step-spec : {M : Type 1} → statement M
-esc-step-spec = tie.close (tie.spec (λ c. search tests) (λ c. search tests))
+pub esc_step_spec : {M : Type 1} → statement M
+esc_step_spec = tie.close (tie.spec (λ c. search tests) (λ c. search tests))

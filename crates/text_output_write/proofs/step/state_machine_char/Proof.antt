@@ -3,8 +3,8 @@ use borrow.Author.Rules.{rules}
 use Rattle.text_output_write.proofs.step.state_machine_char.Statement.{statement}
 use Rattle.text_output_write.proofs.step.state_machine_char.Tie as tie
 
-pub state-machine-char-spec : {M : Type 1} → statement M
-state-machine-char-spec =
+pub state_machine_char_spec : {M : Type 1} → statement M
+state_machine_char_spec =
     tie.close
     (tie.spec
     (λ c. search rules)
@@ -14,6 +14,6 @@ state-machine-char-spec =
     (λ c κs. search rules)
     (λ c. search rules)
     (λ c κs. search rules)
-    (λ c. simp (c.ground-step.ensures, c.before.is-color.ensures, c.before.before.enum_told.given.1))
-    (λ c. simp (c.esc-step.ensures, c.before.enum-told2.given.1))
-    (λ c. simp (c.csi-step.ensures, c.before.enum-told3.given.1)))
+    (λ c. simp (c.ground_step.ensures, c.is_color.ensures, c.in-Ground.is))
+    (λ c. simp (c.esc_step.ensures, c.in-Esc.is))
+    (λ c. simp (c.csi_step.ensures, c.in-Csi.is)))

@@ -3,5 +3,5 @@ use mathlib.Core.Path.{refl}
 use Rattle.text_utils.proofs.lists.emoji_modifier.Statement.{statement}
 use Rattle.text_utils.proofs.lists.emoji_modifier.Tie as tie
 
-pub emoji-modifier-spec : {M : Type 1} → statement M
-emoji-modifier-spec = tie.close (tie.spec (λ c. refl))
+pub emoji_modifier_spec : {M : Type 1} → statement M
+emoji_modifier_spec = tie.close (tie.spec (λ c. refl))

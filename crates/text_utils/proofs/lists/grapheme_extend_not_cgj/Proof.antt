@@ -3,5 +3,5 @@ use mathlib.Core.Path.{refl}
 use Rattle.text_utils.proofs.lists.grapheme_extend_not_cgj.Statement.{statement}
 use Rattle.text_utils.proofs.lists.grapheme_extend_not_cgj.Tie as tie
 
-pub grapheme-extend-not-cgj-spec : {M : Type 1} → statement M
-grapheme-extend-not-cgj-spec = tie.close (tie.spec (λ c. refl))
+pub grapheme_extend_not_cgj_spec : {M : Type 1} → statement M
+grapheme_extend_not_cgj_spec = tie.close (tie.spec (λ c. refl))

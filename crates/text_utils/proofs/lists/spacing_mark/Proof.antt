@@ -3,5 +3,5 @@ use mathlib.Core.Path.{refl}
 use Rattle.text_utils.proofs.lists.spacing_mark.Statement.{statement}
 use Rattle.text_utils.proofs.lists.spacing_mark.Tie as tie
 
-pub spacing-mark-spec : {M : Type 1} → statement M
-spacing-mark-spec = tie.close (tie.spec (λ c. refl))
+pub spacing_mark_spec : {M : Type 1} → statement M
+spacing_mark_spec = tie.close (tie.spec (λ c. refl))

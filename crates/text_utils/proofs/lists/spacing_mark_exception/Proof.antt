@@ -3,5 +3,5 @@ use mathlib.Core.Path.{refl}
 use Rattle.text_utils.proofs.lists.spacing_mark_exception.Statement.{statement}
 use Rattle.text_utils.proofs.lists.spacing_mark_exception.Tie as tie
 
-pub spacing-mark-exception-spec : {M : Type 1} → statement M
-spacing-mark-exception-spec = tie.close (tie.spec (λ c. refl))
+pub spacing_mark_exception_spec : {M : Type 1} → statement M
+spacing_mark_exception_spec = tie.close (tie.spec (λ c. refl))

@@ -9,42 +9,37 @@ use Rattle.utf8_lossy.proofs.Calls.{Running, decode_refused, decode_begin, decod
 use Rattle.utf8_lossy.proofs.Pending.decode.Statement.{statement}
 use Rattle.utf8_lossy.proofs.Pending.decode.Tie as tie
 
-abbrev invariant-loop : tie.invariant-loop
+abbrev invariant-loop : tie.invariant-loop-i
 invariant-loop bytes out₀ s₀ i₀ k₀ replaced₀ out s i k replaced = Running (pending_of s₀) bytes out₀ out (pending_of s) i k replaced
 
-abbrev decreases-loop : tie.decreases-loop
+abbrev decreases-loop : tie.decreases-loop-i
 decreases-loop bytes out₀ s₀ i₀ k₀ replaced₀ out s i k replaced = length bytes - i
 
-returns : tie.Need-returns invariant-loop decreases-loop
-returns c = decode_refused _ _ _ c.if1.true
+returns : tie.Need-returns-then-bytes-out invariant-loop decreases-loop
+returns c = decode_refused _ _ _ c.if-bytes-out.true
 
-loop-holds : tie.Need-loop-init invariant-loop decreases-loop
-loop-holds c = decode_begin _ _ _ c.if1.false
+loop-holds : tie.Need-loop-i-init invariant-loop decreases-loop
+loop-holds c = decode_begin _ _ _ c.if-bytes-out.false
 
-put-requires : tie.Need-put-requires invariant-loop decreases-loop
+put-requires : tie.Need-put-k-requires invariant-loop decreases-loop
 put-requires c κs =
-    let t = c.before in
-    decode_asks _ _ _ _ _ _ _ _ t.before.before.before.loop.invariant t.before.before.loop-test.true _ t.step.ensures
+    decode_asks _ _ _ _ _ _ _ _ c.loop-i.invariant c.loop-i-test.true _ c.step-t.ensures
 
-add-replaced : tie.Need-overflow-add-replaced invariant-loop decreases-loop
+add-replaced : tie.Need-overflow_add-replaced invariant-loop decreases-loop
 add-replaced c =
-    let t = c.before.before.before.before.before in
-    let w = t.before.before.before in
-    let n = decode_counts _ _ _ _ _ _ _ _ w.loop.invariant t.before.before.loop-test.true _ t.step.ensures w.before.if1.false in
-    record { fits = omega (arith, n, pending_short w.before.before.before.before.args.self) }
+    let n = decode_counts _ _ _ _ _ _ _ _ c.loop-i.invariant c.loop-i-test.true _ c.step-t.ensures c.if-bytes-out.false in
+    record { fits = omega (arith, n, pending_short c.args.self) }
 
-loop-again : tie.Need-loop-preserved invariant-loop decreases-loop
+loop-again : tie.Need-loop-i-preserved invariant-loop decreases-loop
 loop-again c =
-    let w = c.before.before.before in
-    let t = w.before.before in
-    rw (w.put.ensures.0, w.put.ensures.1)
-    (decode_again _ _ _ _ _ _ _ _ t.before.before.before.loop.invariant t.before.before.loop-test.true _ t.step.ensures)
+    rw (c.put-k.ensures.0, c.put-k.ensures.1)
+    (decode_again _ _ _ _ _ _ _ _ c.loop-i.invariant c.loop-i-test.true _ c.step-t.ensures)
 
-returns-2 : tie.Need-returns-2 invariant-loop decreases-loop
-returns-2 c = decode_ended _ _ _ _ _ _ _ _ c.before.loop.invariant c.loop-test.false c.before.before.if1.false
+returns-2 : tie.Need-returns invariant-loop decreases-loop
+returns-2 c = decode_ended _ _ _ _ _ _ _ _ c.loop-i.invariant c.loop-i-test.false c.if-bytes-out.false
 
-pub decode-spec : {M : Type 1} → statement M
-decode-spec =
+pub decode_spec : {M : Type 1} → statement M
+decode_spec =
     tie.close
     (tie.spec
     invariant-loop
@@ -58,5 +53,5 @@ decode-spec =
     (λ c. search rules)
     (λ c. search rules)
     loop-again
-    (λ c. c.before.loop.invariant.same)
+    (λ c. c.loop-i.invariant.same)
     returns-2)

@@ -3,20 +3,20 @@ use borrow.Author.Rules.{rules}
 use Rattle.utf8_lossy.proofs.Pending.kind.Statement.{statement}
 use Rattle.utf8_lossy.proofs.Pending.kind.Tie as tie
 
-returns : tie.Need-returns
-returns c = rw c.before.enum_told.given.1 c.first.ensures
+returns : tie.Need-returns-in-Nothing
+returns c = rw c.in-Nothing.is c.first.ensures
 
-returns-2 : tie.Need-returns-2
-returns-2 c = rw c.before.before.self.given.1 c.second.ensures
+returns-2 : tie.Need-returns-in-One
+returns-2 c = rw c.in-One.is c.second.ensures
 
-returns-3 : tie.Need-returns-3
-returns-3 c = rw c.before.before.self2.given.1 c.third.ensures
+returns-3 : tie.Need-returns-in-Two
+returns-3 c = rw c.in-Two.is c.third.ensures
 
-returns-4 : tie.Need-returns-4
-returns-4 c = rw c.before.before.self3.given.1 c.fourth.ensures
+returns-4 : tie.Need-returns-in-Three
+returns-4 c = rw c.in-Three.is c.fourth.ensures
 
-pub kind-spec : {M : Type 1} → statement M
-kind-spec =
+pub kind_spec : {M : Type 1} → statement M
+kind_spec =
     tie.close
     (tie.spec
     (λ c. search rules)

@@ -10,21 +10,18 @@ use Rattle.utf8_lossy.proofs.Pending.step.Tie as tie
 
 pushed-requires : tie.Need-pushed-requires
 pushed-requires c κs =
-    let k = c.before.before in
-    more_short (pending_of k.before.args.self) k.before.args.b (sym k.kind.ensures ∙ c.enum_told.given.1)
+    more_short (pending_of c.args.self) c.args.b (sym c.kind.ensures ∙ c.in-More.is)
 
 broken-requires : tie.Need-broken-requires
-broken-requires c κs = sym c.before.before.kind.ensures ∙ c.enum-told2.given.1
+broken-requires c κs = sym c.kind.ensures ∙ c.in-Bad.is
 
-returns : tie.Need-returns
+returns : tie.Need-returns-in-Whole
 returns c =
-    let k = c.before.before.before in
-    step_is (pending_of k.before.args.self) k.before.args.b (Whole _) _ (sym k.kind.ensures ∙ c.before.c.given.1) refl
+    step_is (pending_of c.args.self) c.args.b (Whole _) _ (sym c.kind.ensures ∙ c.in-Whole.is) refl
 
-returns-2 : tie.Need-returns-2
+returns-2 : tie.Need-returns-in-More
 returns-2 c =
-    let k = c.before.before.before in
-    step_is (pending_of k.before.args.self) k.before.args.b More _ (sym k.kind.ensures ∙ c.before.enum_told.given.1)
+    step_is (pending_of c.args.self) c.args.b More _ (sym c.kind.ensures ∙ c.in-More.is)
     (rw c.pushed.ensures)
 
 pub step_spec : {M : Type 1} → statement M

@@ -3,5 +3,5 @@ use borrow.Author.Rules.{rules}
 use Rattle.text_clean.proofs.text.Text.ended.Statement.{statement}
 use Rattle.text_clean.proofs.text.Text.ended.Tie as tie
 
-pub ended-spec : {M : Type 1} → statement M
-ended-spec = tie.close (tie.spec (λ c κs. search rules) (λ c. search rules) (λ c. rw c.before.if1.false))
+pub ended_spec : {M : Type 1} → statement M
+ended_spec = tie.close (tie.spec (λ c κs. search rules) (λ c. search rules) (λ c. rw c.if-lines.false))

@@ -17,149 +17,114 @@ use Rattle.text_clean.proofs.text.Text.take.Statement.{statement}
 use Rattle.text_clean.proofs.text.Text.take.Tie as tie
 
 -- ---- a leading U+FEFF
-mark-fits : tie.Need-tally-char-requires
+mark-fits : tie.Need-tally_char-requires
 mark-fits c κs =
-    let s = c.before.before.before.before.before.before.before.before in
-    let a = s.args in
-    rw c.before.before.before.one.ensures
-    (rw (mark_is a.page.now a.options a.lines a.self a.c c.if1.true) at s.requires.1.1.1)
+    let a = c.args in
+    rw c.one-before.ensures
+    (rw (mark_is a.page.now a.options a.lines a.self a.c c.if-input-c.true) at c.requires.1.1.1)
 
-mark-returns : tie.Need-returns
+mark-returns : tie.Need-returns-then-input-c
 mark-returns c =
-    let b = c.before.before.before in
-    let s = b.before.before.before.before.before.before in
-    let a = s.args in
-    mark_taken a.page.now a.options a.lines a.self a.c c.before.if1.true a.out.now a.k a.tally
-    c.tally-char.result b.begin.result b.begin.ensures (rw b.before.one.ensures at c.tally-char.ensures)
+    let a = c.args in
+    mark_taken a.page.now a.options a.lines a.self a.c c.if-input-c.true a.out.now a.k a.tally
+    c.tally_char.result c.begin-first.result c.begin-first.ensures (rw c.one-before.ensures at c.tally_char.ensures)
 
 -- ---- any other character: what is counted
-add-lost : tie.Need-overflow-add-lost
+add-lost : tie.Need-overflow_add-lost
 add-lost c =
-    let i = c.before.before in
-    let o = i.before.before.before.before in
-    let a = o.before.before.before.before.before.args in
+    let a = c.args in
     omega
-    (arith, c.one2.ensures, at_most_one (i.in-escape.result && c.before.is-losable.result), o.one.ensures, at_most_one (a.self.cr && not (eqb a.c 0x0A)))
+    (arith, c.one.ensures, at_most_one (c.in_escape-part.result && c.is_losable.result), c.one-before.ensures, at_most_one (a.self.cr && not (eqb a.c 0x0A)))
 
 -- the counts of the code, as those of the definition
-counted : (c : tie.After-one3) →
-    let i = c.before.before.before in
-    let o = i.before.before.before.before in
-    let a = o.before.before.before.before.before.args in
+counted : (c : tie.After-one-2) →
+    let a = c.args in
     let x = stepped_of a.page.now a.options a.lines a.self a.c in
-    (c.one3.result ≡ x.dropped) × (o.one.result + c.before.one2.result ≡ x.lost)
+    (c.one-2.result ≡ x.dropped) × (c.one-before.result + c.one.result ≡ x.lost)
 counted c =
-    let i = c.before.before.before in
-    let o = i.before.before.before.before in (
-      rw (c.one3.ensures, i.in-escape.ensures),
-      rw (o.one.ensures, c.before.one2.ensures, i.in-escape.ensures, c.before.before.is-losable.ensures),
+    (
+      rw (c.one-2.ensures, c.in_escape-part.ensures),
+      rw (c.one-before.ensures, c.one.ensures, c.in_escape-part.ensures, c.is_losable.ensures),
     )
 
-char-fits : tie.Need-tally-char-requires-2
+char-fits : tie.Need-tally_char-sofar-requires
 char-fits c κs =
-    let f = c.before.before.before.before in
-    let s = f.before.before.before.before.before.before.before.before in
-    let a = s.args in
+    let a = c.args in
     let n = counted c in
-    rw (n.0, n.1) (counts_fit a.page.now a.options a.lines a.self a.c f.if1.false a.k a.tally s.requires.1.1.1)
+    rw (n.0, n.1) (counts_fit a.page.now a.options a.lines a.self a.c c.if-input-c.false a.k a.tally c.requires.1.1.1)
 
-tallied-is : (c : tie.After-tally-char2) →
-    let a = c.before.before.before.before.before.before.before.before.before.before.before.before.before.args in
+tallied-is : (c : tie.After-tally_char-sofar) →
+    let a = c.args in
     let x = stepped_of a.page.now a.options a.lines a.self a.c in
-    c.tally-char2.result ≡ tallied a.tally 1 x.dropped x.lost
-tallied-is c = let n = counted c.before in rw (n.0, n.1) at c.tally-char2.ensures
+    c.tally_char-sofar.result ≡ tallied a.tally 1 x.dropped x.lost
+tallied-is c = let n = counted c.before in rw (n.0, n.1) at c.tally_char-sofar.ensures
 
 -- ---- what the step is, and what it asks
-step_is : (c : tie.After-step) →
-    let a = c.before.before.before.before.before.before.before.before.before.before.before.before.before.before.args in
-    c.step.result ≡ scan_step_of a.page.now a.options (begun a.self.input) a.c
+step_is : (c : tie.After-step-step) →
+    let a = c.args in
+    c.step-step.result ≡ scan_step_of a.page.now a.options (begun a.self.input) a.c
 step_is c =
-    let b = c.before.before.before.before.before.before.before.before in
-    rw b.begin.ensures at c.step.ensures
+    rw c.begin-first.ensures at c.step-step.ensures
 
-asks : (c : tie.After-step) →
-    let a = c.before.before.before.before.before.before.before.before.before.before.before.before.before.before.args in
-    Asks (out_chars c.step.result) a.out.now a.k
+asks : (c : tie.After-step-step) →
+    let a = c.args in
+    Asks (out_chars c.step-step.result) a.out.now a.k
 asks c =
-    let f = c.before.before.before.before.before.before in
-    let s = f.before.before.before.before.before.before.before.before in
-    let a = s.args in
-    step_asks a.page.now a.options a.lines a.self a.c f.if1.false s.requires.1.0 c.step.result (step_is c) a.out.now a.k
-    s.requires.1.1.0
+    let a = c.args in
+    step_asks a.page.now a.options a.lines a.self a.c c.if-input-c.false c.requires.1.0 c.step-step.result (step_is c) a.out.now a.k
+    c.requires.1.1.0
 
-lead-asks : tie.Need-put-lead-requires
+lead-asks : tie.Need-put_lead-then-requires
 lead-asks c κs =
-    let t = c.before in
-    let a = t.before.before.before.before.before.before.before.before.before.before.before.before.before.before.args in
-    let x = t.step.result in
-    asks_first (lead_chars x.lead) (image_chars x.image) a.out.now a.k (asks t)
+    let a = c.args in
+    let x = c.step-step.result in
+    asks_first (lead_chars x.lead) (image_chars x.image) a.out.now a.k (asks c.before)
 
-image-asks : tie.Need-put-image-requires
+image-asks : tie.Need-put_image-at-requires
 image-asks c κs =
-    let w = c.before.before.before in
-    let t = w.before.before in
-    let a = t.before.before.before.before.before.before.before.before.before.before.before.before.before.before.args in
-    let x = t.step.result in
-    asks_then (lead_chars x.lead) (image_chars x.image) a.out.now a.k w.put-lead.result w.put-lead.new.1.0 (asks t) w.put-lead.ensures
+    let a = c.args in
+    let x = c.step-step.result in
+    asks_then (lead_chars x.lead) (image_chars x.image) a.out.now a.k c.put_lead-then.result c.put_lead-then.new.out (asks c.before.before.before.before.before) c.put_lead-then.ensures
 
 -- lead and image are stored
-put : (c : tie.After-put-image) →
-    let t = c.before.before.before.before.before.before in
-    let a = t.before.before.before.before.before.before.before.before.before.before.before.before.before.before.args in
-    Stored (out_chars t.step.result) a.out.now a.k c.put-image.result c.put-image.new.1.0
+put : (c : tie.After-put_image-at) →
+    let a = c.args in
+    Stored (out_chars c.step-step.result) a.out.now a.k c.put_image-at.result c.put_image-at.new.out
 put c =
-    let w = c.before.before.before.before in
-    let t = w.before.before in
-    let a = t.before.before.before.before.before.before.before.before.before.before.before.before.before.before.args in
-    let x = t.step.result in
-    stored_then (lead_chars x.lead) (image_chars x.image) a.out.now a.k w.put-lead.result c.put-image.result w.put-lead.new.1.0
-    c.put-image.new.1.0 w.put-lead.ensures c.put-image.ensures
+    let a = c.args in
+    let x = c.step-step.result in
+    stored_then (lead_chars x.lead) (image_chars x.image) a.out.now a.k c.put_lead-then.result c.put_image-at.result c.put_lead-then.new.out
+    c.put_image-at.new.out c.put_lead-then.ensures c.put_image-at.ensures
 
 -- ---- the end of its line
-close_asks : tie.Need-close-requires
+close_asks : tie.Need-close-closed-requires
 close_asks c κs =
-    let l = c.before in
-    let v = l.before.before.before.before in
-    let t = v.before.before.before.before.before.before in
-    let f = t.before.before.before.before.before.before in
-    let s = f.before.before.before.before.before.before.before.before in
-    let a = s.args in
-    let x = t.step.result in
-    let r = v.put-image in (
-      (asks_then (out_chars x) (finish_chars x.next true) a.out.now a.k r.result r.new.1.0
-          (line_asks a.page.now a.options a.lines a.self a.c f.if1.false s.requires.1.0 x (step_is t) a.out.now a.k s.requires.1.1.0 l.if2.true)
-          (put v)).1,
-      close_fits a.page.now a.options a.lines a.self a.c f.if1.false s.requires.1.0 x (step_is t) a.out.now a.k s.requires.1.1.0
-          a.tally t.before.tally-char2.result (tallied-is t.before) r.result r.new.1.0 (put v)
-          (counts_fit a.page.now a.options a.lines a.self a.c f.if1.false a.k a.tally s.requires.1.1.1),
+    let a = c.args in
+    let x = c.step-step.result in
+    let r = c.put_image-at in (
+      (asks_then (out_chars x) (finish_chars x.next true) a.out.now a.k r.result r.new.out
+          (line_asks a.page.now a.options a.lines a.self a.c c.if-input-c.false c.requires.1.0 x (step_is c.before.before.before.before.before.before.before.before.before.before.before) a.out.now a.k c.requires.1.1.0 c.if-lines-c.true)
+          (put c.before.before.before.before.before)).1,
+      close_fits a.page.now a.options a.lines a.self a.c c.if-input-c.false c.requires.1.0 x (step_is c.before.before.before.before.before.before.before.before.before.before.before) a.out.now a.k c.requires.1.1.0
+          a.tally c.tally_char-sofar.result (tallied-is c.before.before.before.before.before.before.before.before.before.before.before.before) r.result r.new.out (put c.before.before.before.before.before)
+          (counts_fit a.page.now a.options a.lines a.self a.c c.if-input-c.false a.k a.tally c.requires.1.1.1),
     )
 
-line-returns : tie.Need-returns-2
+line-returns : tie.Need-returns-then-lines-c
 line-returns c =
-    let d = c.before.before.before.before in
-    let l = d.before.before in
-    let v = l.before.before.before.before in
-    let t = v.before.before.before.before.before.before in
-    let f = t.before.before.before.before.before.before in
-    let s = f.before.before.before.before.before.before.before.before in
-    let a = s.args in
-    let r = v.put-image in
-    line_taken a.page.now a.options a.lines a.self a.c f.if1.false s.requires.1.0 t.step.result (step_is t) a.out.now a.k
-    s.requires.1.1.0 a.tally t.before.tally-char2.result (tallied-is t.before) r.result r.new.1.0 (put v) l.if2.true d.close.result
-    c.new.result d.close.new.1.1.0 d.close.ensures c.new.ensures
+    let a = c.args in
+    let r = c.put_image-at in
+    line_taken a.page.now a.options a.lines a.self a.c c.if-input-c.false c.requires.1.0 c.step-step.result (step_is c.before.before.before.before.before.before.before.before.before.before.before.before.before.before.before.before) a.out.now a.k
+    c.requires.1.1.0 a.tally c.tally_char-sofar.result (tallied-is c.before.before.before.before.before.before.before.before.before.before.before.before.before.before.before.before.before) r.result r.new.out (put c.before.before.before.before.before.before.before.before.before.before) c.if-lines-c.true c.close-closed.result
+    c.new.result c.close-closed.new.out c.close-closed.ensures c.new.ensures
 
-returns : tie.Need-returns-3
+returns : tie.Need-returns
 returns c =
-    let v = c.before.before.before.before in
-    let t = v.before.before.before.before.before.before in
-    let i = t.before.before.before.before.before in
-    let f = i.before in
-    let s = f.before.before.before.before.before.before.before.before in
-    let a = s.args in
-    let r = v.put-image in
-    step_taken a.page.now a.options a.lines a.self a.c f.if1.false s.requires.1.0 t.step.result (step_is t) a.out.now a.k
-    s.requires.1.1.0 a.tally t.before.tally-char2.result (tallied-is t.before) r.result r.new.1.0 (put v) c.if2.false
-    i.in-escape.result i.in-escape.ensures
+    let a = c.args in
+    let r = c.put_image-at in
+    step_taken a.page.now a.options a.lines a.self a.c c.if-input-c.false c.requires.1.0 c.step-step.result (step_is c.before.before.before.before.before.before.before.before.before.before) a.out.now a.k
+    c.requires.1.1.0 a.tally c.tally_char-sofar.result (tallied-is c.before.before.before.before.before.before.before.before.before.before.before) r.result r.new.out (put c.before.before.before.before) c.if-lines-c.false
+    c.in_escape-part.result c.in_escape-part.ensures
 
 pub take_spec : {M : Type 1} → statement M
 take_spec =

@@ -1,3 +1,0 @@
--- The walks that are shared: of a function over a lent record, and of one that lends its record.
-pub mod Lent
-pub mod Loan
