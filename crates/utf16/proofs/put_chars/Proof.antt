@@ -196,8 +196,7 @@ loop2-less c = search rules
 
 loop2-again : tie.Need-loop-i-2-preserved invariant-loop2 decreases-loop2 invariant-loop decreases-loop
 loop2-again c =
-    let e = c.put_char-at.ensures in
-    (
+    let e = c.put_char-at.ensures in (
       rw (e.0, e.1) (again _ _ _ _ _ _ _ _ c.loop-i-2.invariant.0 (omega (arith, c.loop-i-2-test.true, c.steps_end-stop.ensures.0))),
       omega (arith, c.loop-i-2.invariant.1),
     )

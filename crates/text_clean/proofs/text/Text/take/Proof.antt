@@ -41,11 +41,10 @@ counted : (c : tie.After-one-2) →
     let a = c.args in
     let x = stepped_of a.page.now a.options a.lines a.self a.c in
     (c.one-2.result ≡ x.dropped) × (c.one-before.result + c.one.result ≡ x.lost)
-counted c =
-    (
-      rw (c.one-2.ensures, c.in_escape-part.ensures),
-      rw (c.one-before.ensures, c.one.ensures, c.in_escape-part.ensures, c.is_losable.ensures),
-    )
+counted c = (
+  rw (c.one-2.ensures, c.in_escape-part.ensures),
+  rw (c.one-before.ensures, c.one.ensures, c.in_escape-part.ensures, c.is_losable.ensures),
+)
 
 char-fits : tie.Need-tally_char-sofar-requires
 char-fits c κs =
