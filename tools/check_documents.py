@@ -69,15 +69,15 @@ NO_PROOF = {
 
 # The files of specs/ whose definitions a theorem ties to another source, so that no wrong reading of the one passes by itself.
 TIED = {
-    "unicode/specs/Utf8.antt": "RFC 3629's grammar: grammar, longest (unicode)",
-    "page/specs/Clauses.antt": "the test of a page: clauses-of-accepted, accepted-of-clauses (page)",
-    "replace/specs/Nonchars.antt": "the list of the Rust: nonchars-are (replace)",
-    "text_utils/specs/Uax29.antt": "the properties of UAX #44: start-by-uax29, end-by-uax29 (text_utils)",
-    "isolate_unassigned/specs/Meaning.antt": "the Rust's two flags: isolate-means (isolate_unassigned)",
-    "text_input_parts/specs/PieceSets.antt": "the sets of the steps: parameter-is and the like (text_input_parts)",
+    "scalars/specs/Utf8.antt": "RFC 3629's grammar: grammar, longest (scalars)",
+    "page/specs/Clauses.antt": "the test of a page: clauses_of_accepted, accepted_of_clauses (page)",
+    "replace/specs/Nonchars.antt": "the list of the Rust: nonchars_are (replace)",
+    "text_utils/specs/Uax29.antt": "the properties of UAX #44: start_by_uax29_lem, end_by_uax29_lem (text_utils)",
+    "isolate_unassigned/specs/Meaning.antt": "the Rust's two flags: isolate_means (isolate_unassigned)",
+    "text_input_parts/specs/PieceSets.antt": "the sets of the steps: parameter_is and the like (text_input_parts)",
     "text_input/specs/Pieces.antt": "the Rust's steps: whole (text_input)",
     "text_input/specs/Streams.antt": "the Rust's steps: stream (text_input)",
-    "text_output/specs/Orders.antt": "the tests of the calls: write-order and the like (text_output)",
+    "text_output/specs/Orders.antt": "the tests of the calls: write_order and the like (text_output)",
     "one_reading/specs/Calls.antt": "the calls: demand3 (one_reading)",
     "one_reading/specs/Demand.antt": "the calls: demand3 (one_reading)",
     "one_reading/specs/Cases.antt": "the calls: cases (one_reading)",

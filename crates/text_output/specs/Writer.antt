@@ -67,7 +67,7 @@ sound m = leb m.held escape_limit && held_in m.state m.held
 
 -- outside an escape, where nothing is held: "Held counts the characters of an escape in progress, else 0."
 abbrev pub on_ground : Machine → Ground → Machine
-on_ground m ground = record { state = Grounded ground; held = 0; escape = m.escape }
+on_ground m kind = record { state = Grounded kind; held = 0; escape = m.escape }
 
 -- "its after-newline state": `reset_state`; expectation and kept characters stay
 abbrev pub after_newline : TextOutput → TextOutput

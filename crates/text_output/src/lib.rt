@@ -218,10 +218,10 @@ impl TextOutput {
         }
     }
 
-    fn flush_ground(self, ground: Ground) -> Answered
-        ensures { answered_given result ≡ flush_in (Grounded ground) self }
+    fn flush_ground(self, kind: Ground) -> Answered
+        ensures { answered_given result ≡ flush_in (Grounded kind) self }
     {
-        match ground {
+        match kind {
             Ground::Newline => Answered {
                 answer: Answer::Done,
                 next: self.expecting(),
@@ -264,10 +264,10 @@ impl TextOutput {
         }
     }
 
-    fn close_ground(self, ground: Ground) -> Answered
-        ensures { answered_given result ≡ close_in (Grounded ground) self }
+    fn close_ground(self, kind: Ground) -> Answered
+        ensures { answered_given result ≡ close_in (Grounded kind) self }
     {
-        match ground {
+        match kind {
             Ground::Newline => Answered {
                 answer: Answer::Done,
                 next: self.expecting(),
