@@ -1,5 +1,7 @@
 // What the arguments ask. A file is kept as the number of the argument that names it.
+use crate::names;
 use check::same;
+use std::env::{Env, FillError};
 
 // What `stop` says: go on with the clean; a text is asked for; or what is wrong with the argument `at`.
 pub const GO: u32 = 0;
@@ -43,7 +45,7 @@ pub struct Wish {
     pub wants: u32,
 }
 
-fn none() -> Wish {
+pub fn none() -> Wish {
     Wish {
         lines: false,
         nel: false,
@@ -128,39 +130,41 @@ fn name(word: &[u8], i: usize, w: Wish) -> Wish {
     new
 }
 
-// Takes argument i, which fits 4,096 bytes or is wrong.
-fn take(i: usize, w: Wish) -> Wish {
-    let mut word = io::buffer();
-    let k = os::arg(i, &mut word);
-    if os::errno() != 0 {
-        let mut wrong = w;
-        wrong.stop = TOO_LONG;
-        wrong.at = i;
-        return wrong;
-    }
+// Takes argument i.
+fn take(word: &[u8], i: usize, w: Wish) -> Wish {
     if w.wants != NOTHING {
-        return name(&word[..k], i, w);
+        return name(word, i, w);
     }
     if w.only_files {
         return file(i, w);
     }
-    if is_option(&word[..k]) {
-        return option(&word[..k], i, w);
+    if is_option(word) {
+        return option(word, i, w);
     }
     file(i, w)
 }
 
+// Argument i does not fit 4,096 bytes.
+fn too_long(i: usize, w: Wish) -> Wish {
+    let mut wrong = w;
+    wrong.stop = TOO_LONG;
+    wrong.at = i;
+    wrong
+}
+
 // Takes the arguments in their order, up to the first that stops.
-pub fn read() -> Wish {
+pub fn read(rt: &impl Env) -> Wish {
+    let mut word = names::room();
     let mut w = none();
-    let n = os::arg_count();
-    let mut i = 1;
-    while i < n {
+    for i in 1..usize::MAX {
         if w.stop != GO {
             break;
         }
-        w = take(i, w);
-        i += 1;
+        match rt.arg(i, &mut word) {
+            Ok(n) => w = take(&word[..n], i, w),
+            Err(FillError::TooLong) => w = too_long(i, w),
+            Err(FillError::NotPresent) => break,
+        }
     }
     if (w.stop == GO) & (w.wants != NOTHING) {
         w.stop = NO_NAME;

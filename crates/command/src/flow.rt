@@ -2,13 +2,15 @@
 use crate::arguments::Wish;
 use crate::messages::Clock;
 use crate::place::{Begun, Fault, Spot, plus};
+use crate::ways::Ways;
 use crate::{messages, place};
 use command_bytes::counts::starts;
 use command_bytes::front;
+use std::io::{Read, Write};
 use text_clean::{CleanAnswer, Cleaner, Counts};
 use text_input::Options;
 
-// How the flow stands: on; all done; failed, which was said; stopped by `--strict`, which was said; a write failed, which errno tells.
+// How the flow stands: on; all done; failed, which was said; stopped by `--strict`, which was said.
 pub const ON: u32 = 0;
 
 pub const ENDED: u32 = 1;
@@ -16,15 +18,6 @@ pub const ENDED: u32 = 1;
 pub const BROKEN: u32 = 2;
 
 pub const STOPPED: u32 = 3;
-
-pub const UNWRITTEN: u32 = 4;
-
-// The descriptors of the input and the output.
-#[derive(Clone, Copy)]
-pub struct Ways {
-    pub from: i32,
-    pub to: i32,
-}
 
 // What was done so far.
 #[derive(Clone, Copy)]
@@ -119,9 +112,10 @@ fn chars(w: Wish, out: &[u8], n: usize) -> usize {
 }
 
 // Writes what a call wrote to out, and counts it.
-fn put(to: i32, w: Wish, out: &[u8], counts: Counts, bytes: usize, t: Total) -> Total {
-    if !io::write_all(to, front::bytes(out, counts.written)) {
-        return t.ending(UNWRITTEN);
+fn put(ways: &mut Ways<'_>, w: Wish, out: &[u8], counts: Counts, bytes: usize, t: Total) -> Total {
+    if let Err(why) = ways.to.write_all(front::bytes(out, counts.written)) {
+        messages::failed_after(ways.errors, t.shown, ways.out_name, &why);
+        return t.ending(BROKEN);
     }
     let sums = t.sums.and(counts, bytes, chars(w, out, counts.written));
     let first = t.first;
@@ -138,14 +132,14 @@ fn put(to: i32, w: Wish, out: &[u8], counts: Counts, bytes: usize, t: Total) -> 
 }
 
 // The fault of which `--strict` says that it is there.
-fn stopped(name: &[u8], w: Wish, fault: Fault, t: Total) -> Total {
-    messages::fault(t.shown, name, fault, w.lines);
+fn stopped(ways: &Ways<'_>, w: Wish, fault: Fault, t: Total) -> Total {
+    messages::fault(ways.errors, t.shown, ways.name, fault, w.lines);
     t.ending(STOPPED)
 }
 
 // A call was refused. Pages are accepted and there is room for every block, so none is.
-fn refused(name: &[u8], number: u32, t: Total) -> Total {
-    messages::refused(t.shown, name, number);
+fn refused(ways: &Ways<'_>, number: u32, t: Total) -> Total {
+    messages::refused(ways.errors, t.shown, ways.name, number);
     t.ending(BROKEN)
 }
 
@@ -193,8 +187,7 @@ fn placed(
 
 // A block is cleaned: writes it, unless `--strict` stops at it.
 fn cleaned(
-    to: i32,
-    name: &[u8],
+    ways: &mut Ways<'_>,
     w: Wish,
     begun: Begun,
     page: &[u32],
@@ -204,9 +197,9 @@ fn cleaned(
     t: Total,
 ) -> Total {
     if w.strict & place::has_fault(counts, true) {
-        return stopped(name, w, place::first(begun, true, page, bytes, out), t);
+        return stopped(ways, w, place::first(begun, true, page, bytes, out), t);
     }
-    let written = put(to, w, out, counts, bytes.len(), t);
+    let written = put(ways, w, out, counts, bytes.len(), t);
     placed(w, begun, page, counts, bytes, out, written)
 }
 
@@ -227,8 +220,7 @@ fn after(next: Cleaner, t: Total) -> Total {
 
 // A block of bytes that came.
 fn block_of(
-    to: i32,
-    name: &[u8],
+    ways: &mut Ways<'_>,
     page: &[u32],
     w: Wish,
     bytes: &[u8],
@@ -247,27 +239,27 @@ fn block_of(
     let answer = done.answer;
     let now = after(done.next, t);
     match answer {
-        CleanAnswer::Done(counts) => cleaned(to, name, w, begun, page, counts, bytes, out, now),
-        CleanAnswer::Refused(number) => refused(name, number, now),
+        CleanAnswer::Done(counts) => cleaned(ways, w, begun, page, counts, bytes, out, now),
+        CleanAnswer::Refused(number) => refused(ways, number, now),
     }
 }
 
 // The end is cleaned: bytes that are pending are no UTF-8.
-fn ended(to: i32, name: &[u8], w: Wish, counts: Counts, out: &mut [u8], t: Total) -> Total {
+fn ended(ways: &mut Ways<'_>, w: Wish, counts: Counts, out: &mut [u8], t: Total) -> Total {
     let mut first = t.first;
     if 0 < counts.replaced {
         let fault = Fault::no_utf_8(t.spot, counts.replaced);
         if w.strict {
-            return stopped(name, w, fault, t);
+            return stopped(ways, w, fault, t);
         }
         if t.first.kind == place::NONE {
             first = fault;
         }
     }
     if w.strict & (0 < counts.lost) {
-        return stopped(name, w, Fault::lost(t.spot), t);
+        return stopped(ways, w, Fault::lost(t.spot), t);
     }
-    let written = put(to, w, out, counts, 0, t);
+    let written = put(ways, w, out, counts, 0, t);
     let mut end = ENDED;
     if written.end != ON {
         end = written.end;
@@ -286,54 +278,50 @@ fn ended(to: i32, name: &[u8], w: Wish, counts: Counts, out: &mut [u8], t: Total
 }
 
 // The input ended.
-fn last(to: i32, name: &[u8], page: &[u32], w: Wish, out: &mut [u8], t: Total) -> Total {
+fn last(ways: &mut Ways<'_>, page: &[u32], w: Wish, out: &mut [u8], t: Total) -> Total {
     let record = t.next;
     let done = record.finish(page, options(w), true, out);
     let answer = done.answer;
     let now = after(done.next, t);
     match answer {
-        CleanAnswer::Done(counts) => ended(to, name, w, counts, out, now),
-        CleanAnswer::Refused(number) => refused(name, number, now),
+        CleanAnswer::Done(counts) => ended(ways, w, counts, out, now),
+        CleanAnswer::Refused(number) => refused(ways, number, now),
     }
 }
 
 // Reads once, cleans what came, and writes it.
 fn turn(
-    ways: Ways,
-    name: &[u8],
+    ways: &mut Ways<'_>,
     page: &[u32],
     w: Wish,
     block: &mut [u8],
     out: &mut [u8],
     t: Total,
 ) -> Total {
-    let got = libc::read(ways.from, block);
-    if got < 0 {
-        messages::failed_after(t.shown, name);
-        return t.ending(BROKEN);
+    match ways.from.read(block) {
+        Err(why) => {
+            messages::failed_after(ways.errors, t.shown, ways.name, &why);
+            t.ending(BROKEN)
+        }
+        Ok(0) => last(ways, page, w, out, t),
+        Ok(n) => block_of(ways, page, w, front::bytes(block, n), out, t),
     }
-    let n = io::count(got, block);
-    if n == 0 {
-        return last(ways.to, name, page, w, out, t);
-    }
-    block_of(ways.to, name, page, w, front::bytes(block, n), out, t)
 }
 
 // Keeps the line of the progress up to date.
-fn shown(w: Wish, clock: Clock, t: Total) -> Total {
+fn shown(ways: &Ways<'_>, w: Wish, clock: Clock, t: Total) -> Total {
     if !w.progress | (t.end != ON) {
         return t;
     }
     let mut new = t;
-    new.shown = messages::show_each_second(clock, t.sums.bytes_read, t.shown);
+    new.shown = messages::show_each_second(ways.errors, clock, t.sums.bytes_read, t.shown);
     new
 }
 
 // Reads to the end. A proved loop has to end, and nothing says that the input does: so the loop counts its turns down, from a number
 // that no run uses up.
 pub fn all(
-    ways: Ways,
-    name: &[u8],
+    ways: &mut Ways<'_>,
     page: &[u32],
     w: Wish,
     clock: Clock,
@@ -344,7 +332,8 @@ pub fn all(
     let mut turns = u64::MAX;
     while turns > 0 {
         turns -= 1;
-        t = shown(w, clock, turn(ways, name, page, w, block, out, t));
+        t = turn(ways, page, w, block, out, t);
+        t = shown(ways, w, clock, t);
         if t.end != ON {
             break;
         }

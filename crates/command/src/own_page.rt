@@ -1,7 +1,11 @@
 // A page out of a file.
 use crate::messages::{failed, no_page};
+use crate::names;
 use command_bytes::numbers::Parsed;
 use command_bytes::{front, numbers};
+use std::fs::File;
+use std::io;
+use std::io::{Read, Stderr};
 
 // The numbers of the longest page that is accepted: 2 sizes, and twice the ranges, 2,048 of each kind.
 pub const NUMBERS: usize = 8194;
@@ -17,53 +21,72 @@ pub enum OwnPage {
 }
 
 // The page of a text.
-fn of_text(name: &[u8], text: &[u8], out: &mut [u32]) -> OwnPage {
+fn of_text(errors: Stderr, name: &[u8], text: &[u8], out: &mut [u32]) -> OwnPage {
     match numbers::numbers(text, out) {
         Parsed::NoNumber => {
-            no_page(name, b"a word in it is no hexadecimal number");
+            no_page(errors, name, b"a word in it is no hexadecimal number");
             OwnPage::Wrong
         }
         Parsed::Many => {
-            no_page(name, b"it has too many numbers");
+            no_page(errors, name, b"it has too many numbers");
             OwnPage::Wrong
         }
         Parsed::All(n) => {
             if page::is_accepted(front::numbers(out, n)) {
                 return OwnPage::Is(n);
             }
-            no_page(name, b"its numbers are refused (2)");
+            no_page(errors, name, b"its numbers are refused (2)");
             OwnPage::Wrong
         }
     }
 }
 
-// The page of an open file. `read_full` answers few bytes both at the end and where a read fails: one read more tells which it is.
-fn of_file(name: &[u8], fd: i32, out: &mut [u32]) -> OwnPage {
-    let mut text = [0u8; TEXT];
-    let n = io::read_full(fd, &mut text);
+// Fills a buffer from a file, as far as the file goes, and answers how many bytes it has.
+fn fill(file: &mut File, text: &mut [u8]) -> io::Result<usize> {
+    let mut n = 0;
+    while n < text.len() {
+        let got = file.read(&mut text[n..])?;
+        if got == 0 {
+            break;
+        }
+        n += got;
+    }
+    Ok(n)
+}
+
+// The text of an open file, and whether more follows.
+fn text_of(file: &mut File, text: &mut [u8]) -> io::Result<(usize, bool)> {
+    let n = fill(file, text)?;
     let mut more = [0u8; 1];
-    let got = libc::read(fd, &mut more);
-    if got < 0 {
-        failed(name);
-        return OwnPage::Wrong;
+    let got = file.read(&mut more)?;
+    Ok((n, 0 < got))
+}
+
+// The page of an open file.
+fn of_file(errors: Stderr, name: &[u8], file: &mut File, out: &mut [u32]) -> OwnPage {
+    let mut text = [0u8; TEXT];
+    match text_of(file, &mut text) {
+        Err(why) => {
+            failed(errors, name, &why);
+            OwnPage::Wrong
+        }
+        Ok((_, true)) => {
+            no_page(errors, name, b"it has more than 65536 bytes");
+            OwnPage::Wrong
+        }
+        Ok((n, false)) => of_text(errors, name, front::bytes(&text, n), out),
     }
-    if got > 0 {
-        no_page(name, b"it has more than 65536 bytes");
-        return OwnPage::Wrong;
-    }
-    of_text(name, front::bytes(&text, n), out)
 }
 
 // The page of the file that argument i names.
-pub fn read(i: usize, out: &mut [u32]) -> OwnPage {
-    let mut path = io::buffer();
-    let k = os::arg(i, &mut path);
-    let fd = os::open_read(&path[..k]);
-    if fd < 0 {
-        failed(&path[..k]);
-        return OwnPage::Wrong;
+pub fn read(rt: &HostRuntime, i: usize, out: &mut [u32]) -> OwnPage {
+    let mut path = names::room();
+    let name = names::argument(rt, i, &mut path);
+    match names::open(rt, name) {
+        Err(why) => {
+            failed(rt.stderr(), name, &why);
+            OwnPage::Wrong
+        }
+        Ok(mut file) => of_file(rt.stderr(), name, &mut file, out),
     }
-    let page = of_file(&path[..k], fd, out);
-    libc::close(fd);
-    page
 }

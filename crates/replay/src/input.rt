@@ -1,6 +1,8 @@
 // The lines of the input, which is read in blocks.
-use libc::STDIN_FILENO;
 use replay_words::lines;
+
+// The descriptor of standard input.
+const STANDARD_INPUT: i32 = 0;
 
 // How far the input is read: the bytes of the block, those that are taken, the bytes of the line, and whether more may follow.
 #[derive(Clone, Copy)]
@@ -23,8 +25,7 @@ pub fn start() -> Read {
 
 // Reads a block, and answers how many bytes it has: none at the end of the input, or where a read fails.
 fn fill(block: &mut [u8]) -> usize {
-    let got = libc::read(STDIN_FILENO, block);
-    io::count(got, block)
+    io::read_full(STANDARD_INPUT, block)
 }
 
 // Gathers the next line. A proved loop has to end, and nothing says that the input does: so the loop counts its turns down, from a

@@ -2,7 +2,9 @@
 // and answers how many wait then. A full buffer is written out, so there is room for any answer. A
 // write that fails is not told: what is missing shows when the answers are compared.
 use crate::front;
-use libc::STDOUT_FILENO;
+
+// The descriptor of standard output.
+const STANDARD_OUTPUT: i32 = 1;
 
 // Why a line is no operation.
 #[derive(Clone, Copy)]
@@ -20,7 +22,7 @@ pub enum Why {
 
 // Writes out the bytes that wait.
 pub fn flush(out: &[u8], at: usize) {
-    io::write_all(STDOUT_FILENO, front::bytes(out, at));
+    io::write_all(STANDARD_OUTPUT, front::bytes(out, at));
 }
 
 // One byte.

@@ -1,7 +1,8 @@
-// The command as a program: run on the sample of samples/ wherever the crates are checked. A program has no exit status here: the
-// built command is crates/yeshorit_c under c/main.c.
+// The command as a program. The built command is this one with c/signals.c beside it.
 #![tactic(auto)]
 
-fn main() {
-    command::run();
+use std::process::ExitCode;
+
+fn main(rt: HostRuntime) -> ExitCode {
+    ExitCode::from(command::run(&rt))
 }
