@@ -16,8 +16,7 @@ const SPECS_HEADER: &str = "\
 -- Properties of characters by their names in UAX #44 and UAX #29, each as the ranges of its file, in order: \
 first and last. Assumes
 -- nothing.
-use mathlib.Core.List.{List, [], _∷_}
-use Prim.Native.Nat.{ℕ}
+use Rattle.std.specs.Prelude.{List, [], ◌∷◌, ℕ}
 ";
 
 const BREAKS_HEADER: &str = "\
@@ -25,11 +24,10 @@ const BREAKS_HEADER: &str = "\
 -- Values of the property Grapheme_Cluster_Break (UAX #29, Table 2), each as the ranges of the file, in order: \
 first and last. No other
 -- definition is made from this file but that of the excepted spacing marks in Tables.antt. Assumes nothing.
-use mathlib.Core.List.{List, [], _∷_}
-use Prim.Native.Nat.{ℕ}
+use Rattle.std.specs.Prelude.{List, [], ◌∷◌, ℕ}
 ";
 
-/// The longest line of an array, and the longest list of numbers in it: a longer one has a line for each number.
+/// The longest line of an array, and the longest list of numbers on one with its name.
 const LONGEST_LINE: usize = 100;
 const LONGEST_LIST: usize = 60;
 
@@ -70,8 +68,21 @@ pub fn array(name: &str, numbers: impl Iterator<Item = u32>) -> String {
     if list.len() <= LONGEST_LIST && start.len() + list.len() + "];".len() <= LONGEST_LINE {
         return format!("{start}{list}];\n");
     }
-    let lines: String = words.iter().map(|word| format!("    {word},\n")).collect();
-    format!("{start}\n{lines}];\n")
+    format!("{start}\n{}];\n", filled(&words))
+}
+
+/// Words on lines as long as may be, which is shorter than the longest, with a comma behind each.
+fn filled(words: &[String]) -> String {
+    let mut lines = vec![String::from("   ")];
+    for word in words {
+        let line = lines.last_mut().expect("there is a line");
+        if line.len() + " ".len() + word.len() + ",".len() < LONGEST_LINE {
+            line.push_str(&format!(" {word},"));
+        } else {
+            lines.push(format!("    {word},"));
+        }
+    }
+    lines.iter().map(|line| format!("{line}\n")).collect()
 }
 
 /// The list of a property as the text of `src/tables.rt` stores it, read back.

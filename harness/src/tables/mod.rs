@@ -65,7 +65,7 @@ pub const PROPERTIES: [Property; 8] = [
         array: "GRAPHEME_EXTEND_NOT_CGJ",
         form: Packed,
         function: "is_grapheme_extend_not_cgj",
-        definition: "graphemeExtend",
+        definition: "grapheme_extend",
         comment: "Grapheme_Extend = Yes: DerivedCoreProperties.txt",
         source: File(CORE, "Grapheme_Extend"),
         // The original leaves CGJ out by name.
@@ -75,7 +75,7 @@ pub const PROPERTIES: [Property; 8] = [
         array: "EMOJI_MODIFIER",
         form: Packed,
         function: "is_emoji_modifier",
-        definition: "emojiModifier",
+        definition: "emoji_modifier",
         comment: "Emoji_Modifier = Yes: emoji-data.txt",
         source: File(EMOJI, "Emoji_Modifier"),
         lacking: &[],
@@ -84,7 +84,7 @@ pub const PROPERTIES: [Property; 8] = [
         array: "SPACING_MARK",
         form: Packed,
         function: "is_general_category_spacing_mark",
-        definition: "spacingMark",
+        definition: "spacing_mark",
         comment: "General_Category = Spacing_Mark: DerivedGeneralCategory.txt, Mc",
         source: File(CATEGORY, "Mc"),
         lacking: &[],
@@ -93,7 +93,7 @@ pub const PROPERTIES: [Property; 8] = [
         array: "SPACING_MARK_EXCEPTION",
         form: Packed,
         function: "is_grapheme_cluster_break_spacing_mark_plus",
-        definition: "spacingMarkExceptions",
+        definition: "spacing_mark_exceptions",
         comment: "the characters of General_Category = Spacing_Mark that UAX #29 excepts from SpacingMark: those that \
                   GraphemeBreakProperty.txt\ngives neither SpacingMark nor Extend; two that adjoin stand one by one, \
                   as in UAX #29",
@@ -104,7 +104,7 @@ pub const PROPERTIES: [Property; 8] = [
         array: "CONSONANT_PRECEDING_REPHA",
         form: Ends,
         function: "indic_syllabic_category_consonant_preceding_repha",
-        definition: "consonantPrecedingRepha",
+        definition: "consonant_preceding_repha",
         comment: "Indic_Syllabic_Category = Consonant_Preceding_Repha: IndicSyllabicCategory.txt",
         source: File(INDIC, "Consonant_Preceding_Repha"),
         lacking: &[],
@@ -113,7 +113,7 @@ pub const PROPERTIES: [Property; 8] = [
         array: "CONSONANT_PREFIXED",
         form: Ends,
         function: "indic_syllabic_category_consonant_prefixed",
-        definition: "consonantPrefixed",
+        definition: "consonant_prefixed",
         comment: "Indic_Syllabic_Category = Consonant_Prefixed: IndicSyllabicCategory.txt",
         source: File(INDIC, "Consonant_Prefixed"),
         lacking: &[],
@@ -122,7 +122,7 @@ pub const PROPERTIES: [Property; 8] = [
         array: "PREPENDED_CONCATENATION_MARK",
         form: Ends,
         function: "prepended_concatenation_mark",
-        definition: "prependedConcatenationMark",
+        definition: "prepended_concatenation_mark",
         comment: "Prepended_Concatenation_Mark = Yes: PropList.txt",
         source: File(PROPERTIES_LIST, "Prepended_Concatenation_Mark"),
         // The original has no line for these two.
@@ -132,7 +132,7 @@ pub const PROPERTIES: [Property; 8] = [
         array: "PRIVATE_USE_AREA",
         form: Ends,
         function: "is_private_use_area",
-        definition: "privateUse",
+        definition: "private_use",
         comment: "General_Category = Private_Use: DerivedGeneralCategory.txt, Co",
         source: File(CATEGORY, "Co"),
         lacking: &[],
@@ -141,7 +141,7 @@ pub const PROPERTIES: [Property; 8] = [
 
 /// The values of Grapheme_Cluster_Break that `specs/Breaks.antt` has, and the names of their definitions.
 pub const BREAKS: [(&str, &str); 4] =
-    [("Extend", "breakExtend"), ("ZWJ", "breakZwj"), ("SpacingMark", "breakSpacingMark"), ("Prepend", "breakPrepend")];
+    [("Extend", "break_extend"), ("ZWJ", "break_zwj"), ("SpacingMark", "break_spacing_mark"), ("Prepend", "break_prepend")];
 
 /// A set of characters.
 pub type Set = BTreeSet<u32>;
