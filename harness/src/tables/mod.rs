@@ -140,8 +140,12 @@ pub const PROPERTIES: [Property; 8] = [
 ];
 
 /// The values of Grapheme_Cluster_Break that `specs/Breaks.antt` has, and the names of their definitions.
-pub const BREAKS: [(&str, &str); 4] =
-    [("Extend", "break_extend"), ("ZWJ", "break_zwj"), ("SpacingMark", "break_spacing_mark"), ("Prepend", "break_prepend")];
+pub const BREAKS: [(&str, &str); 4] = [
+    ("Extend", "break_extend"),
+    ("ZWJ", "break_zwj"),
+    ("SpacingMark", "break_spacing_mark"),
+    ("Prepend", "break_prepend"),
+];
 
 /// A set of characters.
 pub type Set = BTreeSet<u32>;
