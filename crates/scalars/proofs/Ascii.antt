@@ -10,12 +10,12 @@ use native.Mathlib.Omega.{arith}
 use lib.ListN.{length, take, drop, get_or, set, length-set}
 use lib.Seq.{sets, drop-cons}
 use borrow.Author.Tests.{lt-ltb}
-use Rattle.scalars.specs.declared.utf8.Utf8Step.TheVariants.{Char}
 use Rattle.scalars.specs.Utf8.{utf8_step_of}
 use Rattle.scalars.specs.Inner.{Ascii, AsciiTo}
 use Rattle.scalars.proofs.Steps.{lead_step}
 use Rattle.scalars.proofs.Texts.{Decoding, decoding_again}
 use Rattle.common.proofs.Places.{none, joined}
+use Rattle.std.specs.Prelude.{Some}
 
 module _ (bs : List ℕ) (f : ℕ) where
   pub to_here : (stop : ℕ) → f ≤ stop → AsciiTo bs f stop f
@@ -28,7 +28,7 @@ module _ (bs : List ℕ) (f : ℕ) where
   to_both stop m t a b = to_more stop m t a b.begun b.low b.each
 
 module _ (bs out₀ : List ℕ) where
-  ascii_step : (at : ℕ) → at < length bs → get_or bs at 0 < 0x80 → utf8_step_of bs at ≡ Char (get_or bs at 0) (at + 1)
+  ascii_step : (at : ℕ) → at < length bs → get_or bs at 0 < 0x80 → utf8_step_of bs at ≡ Some ((get_or bs at 0), (at + 1))
   ascii_step at l h = sym (lead_step bs at (get_or bs at 0) l refl) ∙ rw (lt-ltb (get_or bs at 0) 0x80 h)
 
   over_by : (n : ℕ) (out : List ℕ) (k at : ℕ) → Decoding bs out₀ out k at → k + n ≤ length out → at + n ≤ length bs → Ascii bs at (at + n)
@@ -44,7 +44,7 @@ module _ (bs out₀ : List ℕ) where
       (over_by n (set out k b) (k + 1) (at + 1) (decoding_again bs out₀ out k at b (at + 1) d (omega arith) e)
       (simp length-set (omega arith)) (omega arith) (λ x m o. h x (omega arith) (omega arith)))
 
-  pub over : (out : List ℕ) (k at c next end : ℕ) → Decoding bs out₀ out k at → utf8_step_of bs at ≡ Char c next
+  pub over : (out : List ℕ) (k at c next end : ℕ) → Decoding bs out₀ out k at → utf8_step_of bs at ≡ Some (c, next)
       → AsciiTo bs next (length bs) end → k + 1 + (end - next) ≤ length out
       → Decoding bs out₀ (sets (set out k c) (k + 1) (take (end - next) (drop next bs))) (k + 1 + (end - next)) end
   over out k at c next end d e a r =

@@ -4,12 +4,12 @@ use mathlib.Core.Path.{◌≡◌, refl, sym}
 use mathlib.Core.Bool.{true}
 use mathlib.Core.List.{List, [], ◌∷◌}
 use native.Mathlib.Omega.{arith}
-use Rattle.scalars.specs.declared.utf8.Utf8Step.TheVariants.{Stop}
 use Rattle.scalars.specs.Chars.{is_char, are_chars}
 use Rattle.scalars.specs.Utf8.{encode_of, encode_all, continuation, utf8_step_of, chars_of}
 use Rattle.scalars.specs.Inner.{more_of, kept_of}
 use Rattle.scalars.proofs.Steps.{lead_step}
 use Rattle.scalars.proofs.Texts.{decode_encode}
+use Rattle.std.specs.Prelude.{None}
 
 -- the characters encode to the bytes, and the bytes decode to the characters
 abbrev Example : List ℕ → List ℕ → Type 0
@@ -39,16 +39,16 @@ unfolding encode_of is_char
 stump = example _ _ refl refl
 
 -- C0 80, an overlong form of U+0000
-overlong_nul : utf8_step_of (0xC0 ∷ 0x80 ∷ []) 0 ≡ Stop
+overlong_nul : utf8_step_of (0xC0 ∷ 0x80 ∷ []) 0 ≡ None
 unfolding more_of continuation kept_of is_char
 overlong_nul = sym (lead_step (0xC0 ∷ 0x80 ∷ []) 0 0xC0 (omega arith) refl)
 
 -- ED A1 8C, a surrogate
-surrogate : utf8_step_of (0xED ∷ 0xA1 ∷ 0x8C ∷ []) 0 ≡ Stop
+surrogate : utf8_step_of (0xED ∷ 0xA1 ∷ 0x8C ∷ []) 0 ≡ None
 unfolding more_of continuation kept_of is_char
 surrogate = sym (lead_step (0xED ∷ 0xA1 ∷ 0x8C ∷ []) 0 0xED (omega arith) refl)
 
 -- F4 90 80 80, one past U+10FFFF
-past_the_last : utf8_step_of (0xF4 ∷ 0x90 ∷ 0x80 ∷ 0x80 ∷ []) 0 ≡ Stop
+past_the_last : utf8_step_of (0xF4 ∷ 0x90 ∷ 0x80 ∷ 0x80 ∷ []) 0 ≡ None
 unfolding more_of continuation kept_of is_char
 past_the_last = sym (lead_step (0xF4 ∷ 0x90 ∷ 0x80 ∷ 0x80 ∷ []) 0 0xF4 (omega arith) refl)

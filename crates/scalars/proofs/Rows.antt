@@ -7,7 +7,6 @@
 --     long2, long3, long4    it has two, three, four bytes from its row on
 --     written                stores of a row's bytes, one by one, write the encoding
 --     encode_done, -full, -no    the answer and the bytes of `encode_utf8`, by its three cases
---     encoded_back           an answer read back from its numbers
 use Prim.Native.Nat.{ℕ, ◌+◌, ◌/◌, ◌%◌, ◌≤◌, ◌<◌}
 use mathlib.Core.Path.{◌≡◌, refl}
 use mathlib.Core.Bool.{true, false}
@@ -17,10 +16,11 @@ use borrow.Author.Tests.{lt-ltb, le-ltb, le-leb, lt-leb}
 use lib.ListN.{length}
 use lib.Seq.{sets}
 use Rattle.scalars.specs.Chars.{is_char}
-use Rattle.scalars.specs.Utf8.{encode_of, encoded_numbers, encode_answer, encode_bytes}
-use Rattle.scalars.specs.declared.utf8.Encoded.{Encoded}
-use Rattle.scalars.specs.declared.utf8.Encoded.TheVariants.{Next, Refused}
+use Rattle.scalars.specs.Utf8.{encode_of, encode_answer, encode_bytes}
 use Rattle.common.proofs.Kit.{never, by_lt}
+use Rattle.std.specs.Prelude.{Ok, Err}
+use Rattle.common.specs.declared.Refusal.TheVariants.{NotAChar, NoRoom}
+use Rattle.common.specs.Answers.{written_numbers}
 
 pub char_lt : (c : ℕ) → is_char c ≡ true → c < 0x110000
 unfolding is_char
@@ -91,22 +91,12 @@ module _ (c : ℕ) where
 
 module _ (c : ℕ) (buf : List ℕ) (at : ℕ) where
   pub encode_done : is_char c ≡ true → at + length (encode_of c) ≤ length buf
-      → (encoded_numbers (Next (at + length (encode_of c))) ≡ encode_answer c buf at) × (sets buf at (encode_of c) ≡ encode_bytes c buf at)
+      → (written_numbers (Ok (at + length (encode_of c))) ≡ encode_answer c buf at) × (sets buf at (encode_of c) ≡ encode_bytes c buf at)
   encode_done p h = let e = le-ltb _ _ h in (simp (p, e), simp (p, e))
 
   pub encode_full : is_char c ≡ true → length buf < at + length (encode_of c)
-      → (encoded_numbers (Refused 8) ≡ encode_answer c buf at) × (buf ≡ encode_bytes c buf at)
+      → (written_numbers (Err NoRoom) ≡ encode_answer c buf at) × (buf ≡ encode_bytes c buf at)
   encode_full p h = let e = lt-ltb _ _ h in (simp (p, e), simp (p, e))
 
-  pub encode_no : is_char c ≡ false → (encoded_numbers (Refused 1) ≡ encode_answer c buf at) × (buf ≡ encode_bytes c buf at)
+  pub encode_no : is_char c ≡ false → (written_numbers (Err NotAChar) ≡ encode_answer c buf at) × (buf ≡ encode_bytes c buf at)
   encode_no p = (simp p, simp p)
-
--- an answer can be read back from its numbers, so that no two list alike
-abbrev pub encoded_of : List ℕ → Encoded
-encoded_of [] = Refused 0
-encoded_of (n ∷ []) = Refused n
-encoded_of (n ∷ at ∷ ns) = Next at
-
-pub encoded_back : (a : Encoded) → encoded_of (encoded_numbers a) ≡ a
-encoded_back (Next at) = refl
-encoded_back (Refused n) = refl

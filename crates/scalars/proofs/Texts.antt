@@ -21,13 +21,12 @@ use lib.Dec.{eqb}
 use lib.ListN.{length, take, drop, set, length-append, length-take, length-set}
 use lib.Seq.{drop-drop, take_all, sets}
 use Rattle.scalars.specs.declared.utf8.Prefix.{Prefix}
-use Rattle.scalars.specs.declared.utf8.Utf8Step.{Utf8Step}
-use Rattle.scalars.specs.declared.utf8.Utf8Step.TheVariants.{Char, Stop}
 use Rattle.scalars.specs.Chars.{is_char, are_chars}
 use Rattle.scalars.specs.Utf8.{encode_of, encode_all, begins, Stands, utf8_step_of, on_char, chars_from, chars_of, LongestPrefix, counts_of, decode_of, decode_places}
 use Rattle.common.proofs.Kit.{never, both_true, both}
 use Rattle.scalars.proofs.Rows.{length_encode}
 use Rattle.scalars.proofs.Steps.{begins_long, stands_inside, step_exactly}
+use Rattle.std.specs.Prelude.{Option, Some, None}
 
 -- ---- bytes with which a list begins
 begins_append : (ws vs bs : List ℕ) → begins (ws ++ vs) bs ≡ begins ws bs && begins vs (drop (length ws) bs)
@@ -68,7 +67,7 @@ none_of [] h = refl
 none_of (c ∷ cs) h = absurd (omega (arith, length_encode c, simp length-append at h))
 
 -- ---- the longest valid prefix
-pub step_on : (bs : List ℕ) (at c next : ℕ) → utf8_step_of bs at ≡ Char c next → (at < next) × (next ≤ length bs)
+pub step_on : (bs : List ℕ) (at c next : ℕ) → utf8_step_of bs at ≡ Some (c, next) → (at < next) × (next ≤ length bs)
 step_on bs at c next e =
     let s = (step_exactly bs at c next).0 e in
     omega (arith, length_encode c, stands_inside bs at c s.0, s.1)
@@ -78,15 +77,15 @@ module _ (bs : List ℕ) where
   abbrev Runs : ℕ → List ℕ → Type 0
   Runs at cs = (are_chars cs ≡ true) × (begins (encode_all cs) (drop at bs) ≡ true)
 
-  joins : (at c next : ℕ) (cs : List ℕ) → utf8_step_of bs at ≡ Char c next → Runs next cs → Runs at (c ∷ cs)
+  joins : (at c next : ℕ) (cs : List ℕ) → utf8_step_of bs at ≡ Some (c, next) → Runs next cs → Runs at (c ∷ cs)
   joins at c next cs e r =
       let s = (step_exactly bs at c next).0 e in
       (both s.0.char r.0, rw (begins_append, drop-drop, ← s.1) (both s.0.bytes r.1))
 
-  on : (f at : ℕ) → ((next : ℕ) → Runs next (chars_from f bs next)) → (r : Utf8Step) → utf8_step_of bs at ≡ r
+  on : (f at : ℕ) → ((next : ℕ) → Runs next (chars_from f bs next)) → (r : Option (ℕ × ℕ)) → utf8_step_of bs at ≡ r
       → Runs at (on_char r (λ next. chars_from f bs next))
-  on f at go (Char c next) e = joins at c next (chars_from f bs next) e (go next)
-  on f at go Stop e = (refl, refl)
+  on f at go (Some (c, next)) e = joins at c next (chars_from f bs next) e (go next)
+  on f at go None e = (refl, refl)
 
   runs : (f at : ℕ) → Runs at (chars_from f bs at)
   runs zero at = (refl, refl)
@@ -141,10 +140,10 @@ pub encode_decode : (bs : List ℕ) → encode_all (chars_of bs) ≡ take (lengt
 encode_decode bs = begins_take (encode_all (chars_of bs)) bs (longest bs).starts
 
 -- ---- the loops
-on_length : (f : ℕ) (bs : List ℕ) → ((next : ℕ) → length (chars_from f bs next) ≤ f) → (r : Utf8Step)
+on_length : (f : ℕ) (bs : List ℕ) → ((next : ℕ) → length (chars_from f bs next) ≤ f) → (r : Option (ℕ × ℕ))
     → length (on_char r (λ next. chars_from f bs next)) ≤ suc f
-on_length f bs go (Char c next) = omega (arith, go next)
-on_length f bs go Stop = omega arith
+on_length f bs go (Some (c, next)) = omega (arith, go next)
+on_length f bs go None = omega arith
 
 length_from : (f : ℕ) (bs : List ℕ) (at : ℕ) → length (chars_from f bs at) ≤ f
 length_from zero bs at = omega arith
@@ -158,7 +157,7 @@ pub length_decode : (bs out : List ℕ) → length (decode_of bs out) ≤ length
 length_decode bs out = omega (arith, length-take (length out) (chars_of bs))
 
 -- no character comes from a stop on
-pub stop_from : (bs : List ℕ) (f at : ℕ) → utf8_step_of bs at ≡ Stop → chars_from f bs at ≡ []
+pub stop_from : (bs : List ℕ) (f at : ℕ) → utf8_step_of bs at ≡ None → chars_from f bs at ≡ []
 stop_from bs zero at e = refl
 stop_from bs (suc f) at e = rw e
 
@@ -184,7 +183,7 @@ module _ (bs out₀ : List ℕ) where
   unfolding chars_of
   left_begin = rw (sub-zero, sub-zero)
 
-  left_turn : (k at c next : ℕ) → k < length out₀ → k ≤ at → utf8_step_of bs at ≡ Char c next → left k at ≡ c ∷ left (k + 1) next
+  left_turn : (k at c next : ℕ) → k < length out₀ → k ≤ at → utf8_step_of bs at ≡ Some (c, next) → left k at ≡ c ∷ left (k + 1) next
   left_turn k at c next h l e =
       let p : length out₀ - k ≡ suc (length out₀ - (k + 1)) = omega arith in
       let q : length bs - k ≡ suc (length bs - (k + 1)) = omega (arith, step_on bs at c next e) in
@@ -201,7 +200,7 @@ module _ (bs out₀ : List ℕ) where
         places = rw left_begin;
       }
 
-  pub decoding_again : (out : List ℕ) (k at c next : ℕ) → Decoding out k at → k < length out → utf8_step_of bs at ≡ Char c next
+  pub decoding_again : (out : List ℕ) (k at c next : ℕ) → Decoding out k at → k < length out → utf8_step_of bs at ≡ Some (c, next)
       → Decoding (set out k c) (k + 1) next
   decoding_again out k at c next d h e =
       let l = left_turn k at c next (omega (arith, d.same)) d.low e in
@@ -231,10 +230,10 @@ module _ (bs out₀ : List ℕ) where
       let z : length out₀ - k ≡ 0 = omega (arith, d.same, d.fits) in
       decoding_ended out k at d (rw z)
 
-  pub decoding_stop : (out : List ℕ) (k at : ℕ) → Decoding out k at → utf8_step_of bs at ≡ Stop → Stored out k at
+  pub decoding_stop : (out : List ℕ) (k at : ℕ) → Decoding out k at → utf8_step_of bs at ≡ None → Stored out k at
   decoding_stop out k at d e = decoding_ended out k at d (rw (stop_from bs (length bs - k) at e) (take_none (length out₀ - k)))
 
 -- decoding into as many places as there are bytes takes the whole prefix
-pub decoding_all : (bs out : List ℕ) (k at : ℕ) → Decoding bs bs out k at → utf8_step_of bs at ≡ Stop
+pub decoding_all : (bs out : List ℕ) (k at : ℕ) → Decoding bs bs out k at → utf8_step_of bs at ≡ None
     → ◌≡◌ {A = Prefix} (record { chars = k; bytes = at }) (counts_of (chars_of bs))
 decoding_all bs out k at d e = (decoding_stop bs bs out k at d e).0 ∙ ap counts_of (decode_all bs)

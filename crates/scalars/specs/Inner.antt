@@ -1,35 +1,31 @@
 -- What the private functions of src/utf8.rt answer: the step, by the rows of RFC 3629, section 3, read byte by byte (document 01, "The
 -- UTF-8 step answers an enum"), and runs of ASCII. No entry's contract cites this file.
-use Rattle.std.specs.Prelude.{ℕ, ◌+◌, ◌-◌, ◌*◌, ◌≤◌, ◌<◌, ◌≡◌, cond, ◌&&◌, List, length, get_or, take, drop, leb}
+use Rattle.std.specs.Prelude.{ℕ, ◌+◌, ◌-◌, ◌*◌, ◌≤◌, ◌<◌, ◌≡◌, cond, ◌&&◌, List, length, get_or, take, drop, leb, Option, Some, None}
 use Rattle.std.proofs.lemmas.List.Edits.{sets}
-use Rattle.scalars.specs.declared.utf8.Bits.{Bits}
-use Rattle.scalars.specs.declared.utf8.Bits.TheVariants.{Read, Broken}
-use Rattle.scalars.specs.declared.utf8.Utf8Step.{Utf8Step}
-use Rattle.scalars.specs.declared.utf8.Utf8Step.TheVariants.{Char, Stop}
 use Rattle.scalars.specs.Chars.{is_char}
 use Rattle.scalars.specs.Utf8.{continuation}
 
 -- the bits with the six of the byte at i behind them, if it is a continuation byte
-unfoldable pub more_of : List ℕ → ℕ → ℕ → Bits
-more_of bs i bits = cond (continuation (get_or bs i 0)) (Read (bits * 64 + (get_or bs i 0 - 0x80))) Broken
+unfoldable pub more_of : List ℕ → ℕ → ℕ → Option ℕ
+more_of bs i bits = cond (continuation (get_or bs i 0)) (Some (bits * 64 + (get_or bs i 0 - 0x80))) None
 
 -- goes on with the bits, and stops where a byte is missing
-abbrev pub on_bits : Bits → (ℕ → Utf8Step) → Utf8Step
-on_bits (Read v) go = go v
-on_bits Broken go = Stop
+abbrev pub on_bits : Option ℕ → (ℕ → Option (ℕ × ℕ)) → Option (ℕ × ℕ)
+on_bits (Some v) go = go v
+on_bits None go = None
 
 -- a value is kept if it is a character that needs so many bytes
-unfoldable pub kept_of : ℕ → ℕ → ℕ → Utf8Step
-kept_of least c next = cond (leb least c && is_char c) (Char c next) Stop
+unfoldable pub kept_of : ℕ → ℕ → ℕ → Option (ℕ × ℕ)
+kept_of least c next = cond (leb least c && is_char c) (Some (c, next)) None
 
 -- the rows of the table, from the bits of the lead byte at `at`
-abbrev pub two_of : List ℕ → ℕ → ℕ → Utf8Step
+abbrev pub two_of : List ℕ → ℕ → ℕ → Option (ℕ × ℕ)
 two_of bs at lead = on_bits (more_of bs (at + 1) lead) (λ v. kept_of 0x80 v (at + 2))
 
-abbrev pub three_of : List ℕ → ℕ → ℕ → Utf8Step
+abbrev pub three_of : List ℕ → ℕ → ℕ → Option (ℕ × ℕ)
 three_of bs at lead = on_bits (more_of bs (at + 1) lead) (λ v. on_bits (more_of bs (at + 2) v) (λ w. kept_of 0x800 w (at + 3)))
 
-abbrev pub four_of : List ℕ → ℕ → ℕ → Utf8Step
+abbrev pub four_of : List ℕ → ℕ → ℕ → Option (ℕ × ℕ)
 four_of bs at lead =
     on_bits (more_of bs (at + 1) lead)
     (λ v. on_bits (more_of bs (at + 2) v) (λ w. on_bits (more_of bs (at + 3) w) (λ x. kept_of 0x10000 x (at + 4))))

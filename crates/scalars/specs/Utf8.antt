@@ -1,11 +1,7 @@
 -- UTF-8 as RFC 3629 defines it: which bytes encode which character, and what reading and writing them gives.
 -- Decoding into places and encoding at a place are entries that document 01 does not name; encoding gives 1 before 8, as its entries do.
-use Rattle.std.specs.Prelude.{ℕ, zero, suc, ◌+◌, ◌/◌, ◌%◌, ◌≤◌, ◌≡◌, Bool, true, false, cond, not, ◌&&◌, List, [], ◌∷◌, ◌++◌, length, take, drop, ltb, leb, eqb}
-use Rattle.scalars.specs.declared.utf8.Encoded.{Encoded}
-use Rattle.scalars.specs.declared.utf8.Encoded.TheVariants.{Next, Refused}
+use Rattle.std.specs.Prelude.{ℕ, zero, suc, ◌+◌, ◌/◌, ◌%◌, ◌≤◌, ◌≡◌, Bool, true, false, cond, not, ◌&&◌, List, [], ◌∷◌, ◌++◌, length, take, drop, ltb, leb, eqb, Option, Some, None}
 use Rattle.scalars.specs.declared.utf8.Prefix.{Prefix}
-use Rattle.scalars.specs.declared.utf8.Utf8Step.{Utf8Step}
-use Rattle.scalars.specs.declared.utf8.Utf8Step.TheVariants.{Char, Stop}
 use Rattle.std.proofs.lemmas.List.Edits.{sets}
 use Rattle.scalars.specs.Chars.{is_char, are_chars}
 
@@ -46,21 +42,21 @@ pub record Stands (bs : List ℕ) (at c : ℕ) : Type 0 where
   pub char : is_char c ≡ true
   pub bytes : begins (encode_of c) (drop at bs) ≡ true
 
--- the character below n with whose encoding bs begins, and the place after it if bs stands at `at`; Stop where there is none
-unfoldable pub step_below : ℕ → List ℕ → ℕ → Utf8Step
-step_below zero bs at = Stop
+-- the character below n with whose encoding bs begins, and the place after it if bs stands at `at`; none where there is none
+unfoldable pub step_below : ℕ → List ℕ → ℕ → Option (ℕ × ℕ)
+step_below zero bs at = None
 step_below (suc c) bs at =
-    cond (is_char c && begins (encode_of c) bs) (Char c (at + length (encode_of c))) (step_below c bs at)
+    cond (is_char c && begins (encode_of c) bs) (Some (c, at + length (encode_of c))) (step_below c bs at)
 
--- the character whose encoding stands at `at` (no two do: `step_exactly`), and the place after it; Stop where none stands there
+-- the character whose encoding stands at `at` (no two do: `step_exactly`), and the place after it; none where none stands there
 -- "a decoded character is taken apart from the stop that ends the valid prefix"
-unfoldable pub utf8_step_of : List ℕ → ℕ → Utf8Step
+unfoldable pub utf8_step_of : List ℕ → ℕ → Option (ℕ × ℕ)
 utf8_step_of bs at = step_below 0x110000 (drop at bs) at
 
 -- the character, and then what comes from the next place on
-abbrev pub on_char : Utf8Step → (ℕ → List ℕ) → List ℕ
-on_char (Char c next) rest = c ∷ rest next
-on_char Stop rest = []
+abbrev pub on_char : Option (ℕ × ℕ) → (ℕ → List ℕ) → List ℕ
+on_char (Some (c, next)) rest = c ∷ rest next
+on_char None rest = []
 
 -- the characters from `at` on, up to the first stop and at most n
 abbrev pub chars_from : ℕ → List ℕ → ℕ → List ℕ
@@ -90,18 +86,13 @@ abbrev pub decode_places : List ℕ → List ℕ → List ℕ
 decode_places bs out = sets out 0 (decode_of bs out)
 
 -- ---- writing
--- an answer by document 01's numbers: 0 and the place after what was written, or the refusal's number
--- "Where an answer is an enum, a definition lists this paper's number and values for each case. The promises use that definition."
-abbrev pub encoded_numbers : Encoded → List ℕ
-encoded_numbers (Next at) = 0 ∷ at ∷ []
-encoded_numbers (Refused n) = n ∷ []
-
 -- the number of the refusal of c at `at`, and 0 for none: 1 for a number that is no character, "8 too few free places" for too few
 -- bytes from there on
 abbrev pub encode_refusal : ℕ → List ℕ → ℕ → ℕ
 encode_refusal c buf at = cond (not (is_char c)) 1 (cond (ltb (length buf) (at + length (encode_of c))) 8 0)
 
 -- the answer of encoding c at `at`: 0 and the place after it, or the refusal's number
+-- "Where an answer is an enum, a definition lists this paper's number and values for each case. The promises use that definition."
 abbrev pub encode_answer : ℕ → List ℕ → ℕ → List ℕ
 encode_answer c buf at =
     cond (eqb (encode_refusal c buf at) 0) (0 ∷ (at + length (encode_of c)) ∷ []) (encode_refusal c buf at ∷ [])

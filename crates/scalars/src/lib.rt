@@ -7,9 +7,7 @@ mod utf8;
 ghost use Rattle.std.specs.Prelude.{◌≡◌};
 ghost use Rattle.scalars.specs.Chars.{is_char, are_chars};
 
-pub use utf8::{
-    Encoded, Prefix, Utf8Step, decode_utf8, encode_utf8, utf8_step, valid_prefix, write_utf8,
-};
+pub use utf8::{Prefix, decode_utf8, encode_utf8, utf8_step, valid_prefix, write_utf8};
 
 // The bytes of the longest UTF-8 encoding of a character.
 pub const MAX_UTF8_SIZE: usize = 4;

@@ -2,26 +2,13 @@
 // `valid_up_to`, and `char::encode_utf8`, on which the Rust leans.
 ghost use Rattle.std.specs.Prelude.{◌≡◌, true, ◌+◌, ◌≤◌, ◌<◌, length};
 ghost use Rattle.std.proofs.lemmas.List.Edits.{sets};
+ghost use Rattle.common.specs.Answers.{written_numbers};
 ghost use Rattle.scalars.specs.Chars.{is_char};
-ghost use Rattle.scalars.specs.Utf8.{encode_of, utf8_step_of, chars_of, counts_of, decode_of, decode_places, encoded_numbers, encode_answer, encode_bytes};
+ghost use Rattle.scalars.specs.Utf8.{encode_of, utf8_step_of, chars_of, counts_of, decode_of, decode_places, encode_answer, encode_bytes};
 ghost use Rattle.scalars.specs.Inner.{more_of, kept_of, two_of, three_of, four_of, Ascii, AsciiTo, AsciiIn};
 
 use super::is_char;
-use common::{NO_ROOM, NOT_A_CHAR, lesser};
-
-// What stands at a place: a character with the place after it, or none. "The UTF-8 step answers an enum"
-#[derive(Clone, Copy)]
-pub enum Utf8Step {
-    Char(u32, usize),
-    Stop,
-}
-
-// The bits of an encoding read so far, or a byte that does not go on with it.
-#[derive(Clone, Copy)]
-enum Bits {
-    Read(u32),
-    Broken,
-}
+use common::{Refusal, lesser};
 
 fn wide(b: u8) -> u32
     ensures { result ≡ b }
@@ -29,88 +16,74 @@ fn wide(b: u8) -> u32
     b as u32
 }
 
-// The bits with the six of the continuation byte at i behind them.
-fn more(bytes: &[u8], i: usize, bits: u32) -> Bits
+// The bits with the six of the continuation byte at i behind them; none where that byte does not go on with the encoding.
+fn more(bytes: &[u8], i: usize, bits: u32) -> Option<u32>
     requires { bits < 0x8000 }
     ensures { result ≡ more_of bytes.now i bits }
 {
     if bytes.len() <= i {
-        return Bits::Broken;
+        return None;
     }
     let b = wide(bytes[i]);
     if (0x80 <= b) & (b <= 0xbf) {
-        Bits::Read(bits * 64 + (b - 0x80))
+        Some(bits * 64 + (b - 0x80))
     } else {
-        Bits::Broken
+        None
     }
 }
 
-// The value c, if it is a character that needs as many bytes as were read: c is `least` or more.
-fn kept(least: u32, c: u32, next: usize) -> Utf8Step
+// The value c and the place after it, if it is a character that needs as many bytes as were read: c is `least` or more.
+#[tactic(auto, unfolding(crate::specs::Inner::kept_of))]
+fn kept(least: u32, c: u32, next: usize) -> Option<(u32, usize)>
     ensures { result ≡ kept_of least c next }
 {
-    if (least <= c) & is_char(c) {
-        Utf8Step::Char(c, next)
-    } else {
-        Utf8Step::Stop
-    }
+    let fits = (least <= c) & is_char(c);
+    if fits { Some((c, next)) } else { None }
 }
 
 // The character of two, of three and of four bytes at `at`, by the bits of its lead byte.
-fn two(bytes: &[u8], at: usize, lead: u32) -> Utf8Step
+fn two(bytes: &[u8], at: usize, lead: u32) -> Option<(u32, usize)>
     requires { (at < length bytes.now) × (lead < 0x20) }
     ensures { result ≡ two_of bytes.now at lead }
 {
-    let Bits::Read(v) = more(bytes, at + 1, lead) else {
-        return Utf8Step::Stop;
-    };
+    let v = more(bytes, at + 1, lead)?;
     kept(0x80, v, at + 2)
 }
 
-fn three(bytes: &[u8], at: usize, lead: u32) -> Utf8Step
+fn three(bytes: &[u8], at: usize, lead: u32) -> Option<(u32, usize)>
     requires { (at < length bytes.now) × (lead < 0x10) }
     ensures { result ≡ three_of bytes.now at lead }
 {
-    let Bits::Read(v) = more(bytes, at + 1, lead) else {
-        return Utf8Step::Stop;
-    };
-    let Bits::Read(w) = more(bytes, at + 2, v) else {
-        return Utf8Step::Stop;
-    };
+    let v = more(bytes, at + 1, lead)?;
+    let w = more(bytes, at + 2, v)?;
     kept(0x800, w, at + 3)
 }
 
-fn four(bytes: &[u8], at: usize, lead: u32) -> Utf8Step
+fn four(bytes: &[u8], at: usize, lead: u32) -> Option<(u32, usize)>
     requires { (at < length bytes.now) × (lead < 8) }
     ensures { result ≡ four_of bytes.now at lead }
 {
-    let Bits::Read(v) = more(bytes, at + 1, lead) else {
-        return Utf8Step::Stop;
-    };
-    let Bits::Read(w) = more(bytes, at + 2, v) else {
-        return Utf8Step::Stop;
-    };
-    let Bits::Read(x) = more(bytes, at + 3, w) else {
-        return Utf8Step::Stop;
-    };
+    let v = more(bytes, at + 1, lead)?;
+    let w = more(bytes, at + 2, v)?;
+    let x = more(bytes, at + 3, w)?;
     kept(0x10000, x, at + 4)
 }
 
-// The character whose encoding stands at a place, with the place after it. Total: any bytes, any place. Five tests lead to `four`:
-// behind a sixth the compiler would leave it a call, through whose memory every answer would go.
-pub fn utf8_step(bytes: &[u8], at: usize) -> Utf8Step
+// The character whose encoding stands at a place, with the place after it. "The UTF-8 step answers an enum" Total: any bytes, any place.
+// Five tests lead to `four`: behind a sixth the compiler would leave it a call, through whose memory every answer would go.
+pub fn utf8_step(bytes: &[u8], at: usize) -> Option<(u32, usize)>
     ensures { result ≡ utf8_step_of bytes.now at }
 {
     if bytes.len() <= at {
-        return Utf8Step::Stop;
+        return None;
     }
     let b = wide(bytes[at]);
     if b < 0x80 {
-        return Utf8Step::Char(b, at + 1);
+        return Some((b, at + 1));
     }
     if b < 0xe0 {
         if b < 0xc0 {
-            return Utf8Step::Stop;
+            return None;
         }
         return two(bytes, at, b - 0xc0);
     }
@@ -120,7 +93,7 @@ pub fn utf8_step(bytes: &[u8], at: usize) -> Utf8Step
     if b < 0xf8 {
         return four(bytes, at, b - 0xf0);
     }
-    Utf8Step::Stop
+    None
 }
 
 // How many characters, and how many bytes they take.
@@ -178,7 +151,7 @@ pub fn valid_prefix(bytes: &[u8]) -> Prefix
     let mut chars = 0;
     let mut at = 0;
     loop {
-        let Utf8Step::Char(c, next) = utf8_step(bytes, at) else {
+        let Some((c, next)) = utf8_step(bytes, at) else {
             return Prefix { chars, bytes: at };
         };
         chars += 1;
@@ -215,7 +188,7 @@ pub fn decode_utf8(bytes: &[u8], out: &mut [u32]) -> Prefix
     let mut chars = 0;
     let mut at = 0;
     while chars < out.len() {
-        let Utf8Step::Char(c, next) = utf8_step(bytes, at) else {
+        let Some((c, next)) = utf8_step(bytes, at) else {
             break;
         };
         out[chars] = c;
@@ -227,13 +200,6 @@ pub fn decode_utf8(bytes: &[u8], out: &mut [u32]) -> Prefix
         }
     }
     Prefix { chars, bytes: at }
-}
-
-// The place after what was written, or the number of a refusal.
-#[derive(Clone, Copy)]
-pub enum Encoded {
-    Next(usize),
-    Refused(u32),
 }
 
 // How many bytes encode c.
@@ -278,19 +244,19 @@ pub fn write_utf8(c: u32, buf: &mut [u8], at: usize) -> usize
     at + 4
 }
 
-// Writes the encoding of c at `at`. Total: refuses 1, then 8 where fewer bytes are free from there on than c needs, and
+// Writes the encoding of c at `at`, and answers the place after it. Total: refuses 1, then 8 where fewer bytes are free from there on than c needs, and
 // then leaves every byte.
-pub fn encode_utf8(c: u32, buf: &mut [u8], at: usize) -> Encoded
-    ensures answer { encoded_numbers result ≡ encode_answer c buf.old at }
+pub fn encode_utf8(c: u32, buf: &mut [u8], at: usize) -> Result<usize, Refusal>
+    ensures answer { written_numbers result ≡ encode_answer c buf.old at }
     ensures bytes { buf.new ≡ encode_bytes c buf.old at }
 {
     if is_char(c) {
         if at <= buf.len() {
             if len_utf8(c) <= buf.len() - at {
-                return Encoded::Next(write_utf8(c, buf, at));
+                return Ok(write_utf8(c, buf, at));
             }
         }
-        return Encoded::Refused(NO_ROOM);
+        return Err(Refusal::NoRoom);
     }
-    Encoded::Refused(NOT_A_CHAR)
+    Err(Refusal::NotAChar)
 }

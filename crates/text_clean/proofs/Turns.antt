@@ -22,7 +22,6 @@ use Rattle.common.proofs.Lists.{sets_append}
 use Rattle.scalars.specs.Chars.{is_char, are_chars}
 use Rattle.scalars.proofs.Texts.{encode_append}
 use Rattle.scalars.specs.Utf8.{encode_of, encode_all, utf8_step_of}
-use Rattle.scalars.specs.declared.utf8.Utf8Step.TheVariants.{Char}
 use Rattle.scalars.proofs.Rows.{row1, length_encode}
 use Rattle.ranges.specs.declared.Range.{Range}
 use Rattle.stretch.specs.Stretch.{part}
@@ -51,6 +50,7 @@ use Rattle.text_clean.specs.Inner.{Fits, tallied, replaced_more, taken_by, ready
 use Rattle.text_clean.proofs.Append.{tally_is, course_is, passed_one, passes_one, gives_append, leads_append, fits_first}
 use Rattle.text_clean.proofs.plain.Runs.{part_join}
 use Rattle.text_clean.proofs.Ready.{plainly, ready_for_lem, ready_ground, plain_passed, plain_chars, line_end, newline_passed, crlf_passed}
+use Rattle.std.specs.Prelude.{Some}
 
 -- ---- records by their parts
 taken_is : {m n : ℕ} {t u : Text} {x y : Tally} → m ≡ n → t ≡ u → x ≡ y →
@@ -306,7 +306,7 @@ module _ (p : List ℕ) (o : Options) (lines : Bool) (s : Course) (bytes : List 
     none_is (b ∷ l) h = never h
 
     -- a character
-    char_whole : (c j : ℕ) → utf8_step_of bytes i ≡ Char c j → Whole j (c ∷ []) (take_of p o lines s.text c)
+    char_whole : (c j : ℕ) → utf8_step_of bytes i ≡ Some (c, j) → Whole j (c ∷ []) (take_of p o lines s.text c)
     char_whole c j e =
         let n = step_next bytes i c j e in
         let l = length_encode c in
@@ -319,7 +319,7 @@ module _ (p : List ℕ) (o : Options) (lines : Bool) (s : Course) (bytes : List 
           comes = passed_one p o lines s.text c;
         }
 
-    module _ (c j : ℕ) (e : utf8_step_of bytes i ≡ Char c j) where
+    module _ (c j : ℕ) (e : utf8_step_of bytes i ≡ Some (c, j)) where
       pub char_asks : Room → Counted → AsksOne p o lines s.text k s.tally out c
       char_asks room f =
           let w = char_whole c j e in

@@ -14,7 +14,6 @@ use native.Mathlib.Numerals.{add-one}
 use native.Mathlib.Omega.{arith}
 use lib.ListN.{length, drop, get_or}
 use lib.Seq.{drop-cons, drop-length}
-use Rattle.scalars.specs.declared.utf8.Utf8Step.TheVariants.{Char, Stop as NoChar}
 use Rattle.scalars.specs.Utf8.{chars_from, chars_of}
 use Rattle.scalars.specs.Utf8.{utf8_step_of as utf8Step}
 use Rattle.scalars.proofs.Texts.{step_on, stop_from}
@@ -31,6 +30,7 @@ use Rattle.text_output_write.specs.Inner.{Progress, machine_at, pushed, stored, 
 use Rattle.text_output_write.proofs.Rest.{rest_of, run_rest}
 use Rattle.text_output_write.proofs.Stays.{turn_sound}
 use Rattle.text_output_write.proofs.Progress.{on_then, then_off, first_fits, same_end, next_sound, next_same}
+use Rattle.std.specs.Prelude.{Some, None}
 
 -- where one is taken at a place, and the next place is this
 pub record LeftOn (L : ℕ → List ℕ → Type 0) (c next : ℕ) (cs : List ℕ) : Type 0 where
@@ -137,7 +137,7 @@ pub bytes_begin : (bytes : List ℕ) → Bytes bytes 0 (chars_of bytes)
 unfolding chars_of
 bytes_begin bytes = record { most = length bytes; enough = omega arith; is = refl }
 
-pub bytes_on : (bytes : List ℕ) (place c next : ℕ) (cs : List ℕ) → Bytes bytes place cs → utf8Step bytes place ≡ Char c next →
+pub bytes_on : (bytes : List ℕ) (place c next : ℕ) (cs : List ℕ) → Bytes bytes place cs → utf8Step bytes place ≡ Some (c, next) →
     LeftOn (Bytes bytes) c next cs
 bytes_on bytes place c next cs l e = on l.most l.enough l.is
   where
@@ -151,5 +151,5 @@ bytes_on bytes place c next cs l e = on l.most l.enough l.is
           left = record { most = n; enough = omega (arith, o); is = refl };
         }
 
-pub bytes_end : (bytes : List ℕ) (place : ℕ) (cs : List ℕ) → Bytes bytes place cs → utf8Step bytes place ≡ NoChar → cs ≡ []
+pub bytes_end : (bytes : List ℕ) (place : ℕ) (cs : List ℕ) → Bytes bytes place cs → utf8Step bytes place ≡ None → cs ≡ []
 bytes_end bytes place cs l e = sym l.is ∙ stop_from bytes l.most place e

@@ -21,10 +21,10 @@ use Rattle.common.proofs.Kit.{both, both_true, never}
 use Rattle.scalars.specs.Chars.{is_char}
 use Rattle.scalars.specs.Utf8.{encode_of, begins, utf8_step_of}
 use Rattle.scalars.specs.Inner.{Ascii}
-use Rattle.scalars.specs.declared.utf8.Utf8Step.TheVariants.{Char}
 use Rattle.scalars.proofs.Steps.{step_exactly}
 use Rattle.utf8_lossy.specs.Machine.{Turn, step_of, outs_of, rest_of, replaced_of, finish_of}
 use Rattle.utf8_lossy.proofs.Reading.{outs_append, rest_append, replaced_append, text}
+use Rattle.std.specs.Prelude.{Some}
 
 -- what the bytes bs come to where p is pending: these characters, these pending bytes, and so many bytes replaced
 abbrev pub Comes : List ℕ → List ℕ → List ℕ → List ℕ → ℕ → Type 0
@@ -42,7 +42,7 @@ begins_rest (w ∷ ws) (b ∷ bs) h =
     let e = eqb-true w b p.0 in
     rw e (ap (λ (l : List ℕ). b ∷ l) (begins_rest ws bs p.1))
 
-module _ (bs : List ℕ) (at c next : ℕ) (e : utf8_step_of bs at ≡ Char c next) where
+module _ (bs : List ℕ) (at c next : ℕ) (e : utf8_step_of bs at ≡ Some (c, next)) where
   pub step_char : is_char c ≡ true
   step_char = ((step_exactly bs at c next).0 e).0.char
 

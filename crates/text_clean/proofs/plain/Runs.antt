@@ -22,7 +22,6 @@ use Rattle.ranges.specs.declared.Range.{Range}
 use Rattle.ranges.specs.Inner.{in_range}
 use Rattle.scalars.specs.Chars.{is_char}
 use Rattle.scalars.specs.Utf8.{encode_of, encode_all, begins, utf8_step_of}
-use Rattle.scalars.specs.declared.utf8.Utf8Step.TheVariants.{Char}
 use Rattle.scalars.proofs.Rows.{char_low, row1}
 use Rattle.scalars.proofs.Steps.{step_exactly}
 use Rattle.scalars.proofs.Texts.{step_on, encode_append}
@@ -33,6 +32,7 @@ use Rattle.stretch.proofs.Parts.{part_length, part_at}
 use Rattle.text_input_parts.specs.Appended.{last_of}
 use Rattle.text_input_parts.proofs.Last.{last_append}
 use Rattle.text_clean.specs.Inner.{plain_byte, PlainBytes, PlainTo, PlainRun}
+use Rattle.std.specs.Prelude.{Some}
 
 -- ---- bytes
 module _ (bs : List ℕ) (f : ℕ) where
@@ -180,7 +180,7 @@ module _ (bs : List ℕ) (f : ℕ) where
         (λ x l. plain_byte_lem gap plain _ (low x l))
         (λ l. last_at l (part at t bs) (t - 1 - at) (omega arith) ∙ part_at bs at t p.on (t - 1 - at) (omega arith) ∙ rw k))
 
-    pub run_char : (c next : ℕ) → utf8_step_of bs at ≡ Char c next → in_gap gap c ≡ true → Going bs f next (chars + 1) c
+    pub run_char : (c next : ℕ) → utf8_step_of bs at ≡ Some (c, next) → in_gap gap c ≡ true → Going bs f next (chars + 1) c
     run_char c next e i =
         let s = (step_exactly bs at c next).0 e in
         let o = step_on bs at c next e in

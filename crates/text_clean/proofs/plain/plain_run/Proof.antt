@@ -9,13 +9,13 @@ use lib.Dec.{eqb}
 use lib.ListN.{length}
 use borrow.Author.Rules.{rules}
 use borrow.Author.Tests.{not-false}
-use Rattle.scalars.specs.declared.utf8.Utf8Step.TheVariants.{Char}
 use Rattle.scalars.specs.Utf8.{utf8_step_of}
 use Rattle.scalars.proofs.Texts.{step_on}
 use Rattle.stretch.specs.Stretch.{in_gap}
 use Rattle.text_clean.proofs.plain.Runs.{Going, run_begin, run_bytes, run_char}
 use Rattle.text_clean.proofs.plain.plain_run.Statement.{statement}
 use Rattle.text_clean.proofs.plain.plain_run.Tie as tie
+use Rattle.std.specs.Prelude.{Some}
 
 abbrev invariant-loop : tie.invariant-loop-at
 invariant-loop bytes from gap at₀ chars₀ last₀ at chars last = Going bytes from at chars last
@@ -54,7 +54,7 @@ returns-2 c = (behind c.before.before.before.before).1.run
 
 -- a character of the gap stands there
 step : (c : tie.Else-not-in_range-c invariant-loop decreases-loop) →
-    utf8_step_of c.args.bytes.now c.if-at-end.at ≡ Char c.in-Char.c c.in-Char.next
+    utf8_step_of c.args.bytes.now c.if-at-end.at ≡ Some (c.in-Char.c, c.in-Char.next)
 step c = sym c.utf8_step.ensures ∙ c.in-Char.is
 
 add-chars-2 : tie.Need-overflow_add-chars-in-loop-at invariant-loop decreases-loop
