@@ -15,9 +15,10 @@ use Rattle.replace.proofs.Rows.{any_finds}
 use Rattle.check_char.specs.declared.BasicTextError.{BasicTextError}
 use Rattle.check_char.specs.declared.BasicTextError.TheVariants.{ColorEscapeSequence, ControlCode, DeprecatedFormatChar, Escape, BidiFormatChar, Interlinear, LanguageTag, LineSeparation, NonChar, ParaSeparation, UnneededBOM, OutOfBand, Omit, Beyyal, UnrecognizedEscape, Replacement}
 use Rattle.check_char.specs.declared.Categorize.{Categorize}
-use Rattle.check_char.specs.declared.Checked.{Checked}
-use Rattle.check_char.specs.declared.Checked.TheVariants.{Ok, Err}
-use Rattle.check_char.specs.Check.{refusals, reason_of, error_numbers, reason_numbers, carried, check_by, check_numbers, check_answer, categorize_of}
+use Rattle.check_char.specs.Check.{refusals, reason_of, error_numbers, reason_numbers, carried, check_by, check_numbers, check_answer_numbers, check_answer, categorize_of}
+use Rattle.std.specs.Prelude.{⊤, Result, Ok, Err, IsErrAnd}
+use Rattle.check_char.specs.declared.CheckError.{CheckError}
+use Rattle.check_char.specs.declared.CheckError.TheVariants.{Unwritable}
 
 -- the numbers of the reasons that the check gives, after 0
 abbrev pub reasons : List ℕ
@@ -54,29 +55,34 @@ error_number Beyyal h = omega arith
 error_number UnrecognizedEscape h = omega arith
 error_number (Replacement y n) h = omega arith
 
-pub ok_only : (r : Checked) → reason_numbers r ≡ 0 ∷ [] → r ≡ Ok
-ok_only Ok h = refl
+pub ok_only : (r : Result ⊤ BasicTextError) → reason_numbers r ≡ 0 ∷ [] → r ≡ Ok tt
+ok_only (Ok u) h = refl
 ok_only (Err e) h = absurd (error_number e (ap head h))
 
 -- by the number of the reason, whatever it carries
-module _ (c : ℕ) (r : Checked) (ns : List ℕ) (says_so : reason_numbers r ≡ reason_of c ∷ ns) where
-  accepted_by : r ≡ Ok → eqb (reason_of c) 0 ≡ true
+module _ (c : ℕ) (r : Result ⊤ BasicTextError) (ns : List ℕ) (says_so : reason_numbers r ≡ reason_of c ∷ ns) where
+  accepted_by : r ≡ Ok tt → eqb (reason_of c) 0 ≡ true
   accepted_by e = eq-eqb (reason_of c) 0 (sym (ap head (rw e at says_so)))
 
   refused_by_lem : (e : BasicTextError) → r ≡ Err e → eqb (reason_of c) 0 ≡ false
   refused_by_lem e p = ne_eqb (reason_of c) 0 (λ z. error_number e (ap head (rw p at says_so) ∙ z))
 
 -- the entry
-module _ (units : Bool) (c : ℕ) (r : Checked) (says_so : reason_numbers r ≡ check_by units c) where
-  pub answer_accepted : r ≡ Ok → is_char c ≡ true → 0 ∷ [] ≡ check_answer units c
+module _ (units : Bool) (c : ℕ) (r : Result ⊤ BasicTextError) (says_so : reason_numbers r ≡ check_by units c) where
+  pub answer_accepted : r ≡ Ok tt → is_char c ≡ true → 0 ∷ [] ≡ check_answer units c
   answer_accepted e p = simp (p, accepted_by c r _ says_so e)
 
   pub answer_refused : (e : BasicTextError) → r ≡ Err e → is_char c ≡ true → 4 ∷ error_numbers e ≡ check_answer units c
   answer_refused e q p = simp (p, refused_by_lem c r _ says_so e q) (ap (λ (l : List ℕ). 4 ∷ l) (rw q at says_so))
 
+-- what `?` makes of the check's answer
+pub made_of : (r : Result ⊤ CheckError) (e : BasicTextError) → IsErrAnd r (λ x. x ≡ Unwritable e) → check_answer_numbers r ≡ 4 ∷ error_numbers e
+made_of (Ok _) e h = elim h [ ]
+made_of (Err x) e h = rw h
+
 -- the check with the option off
-module _ (c : ℕ) (r : Checked) (says_so : reason_numbers r ≡ check_numbers c) where
-  pub accepted : r ≡ Ok → eqb (reason_of c) 0 ≡ true
+module _ (c : ℕ) (r : Result ⊤ BasicTextError) (says_so : reason_numbers r ≡ check_numbers c) where
+  pub accepted : r ≡ Ok tt → eqb (reason_of c) 0 ≡ true
   unfolding check_numbers
   accepted = accepted_by c r _ says_so
 
@@ -84,7 +90,7 @@ module _ (c : ℕ) (r : Checked) (says_so : reason_numbers r ≡ check_numbers c
   unfolding check_numbers
   refused = refused_by_lem c r _ says_so
 
-  pub category_kept : (s : Categorize) → r ≡ Ok → 0 ∷ c ∷ reason_numbers s.error ≡ categorize_of s c
+  pub category_kept : (s : Categorize) → r ≡ Ok tt → 0 ∷ c ∷ reason_numbers s.error ≡ categorize_of s c
   category_kept s e = simp (accepted e)
 
   pub category_refused : (s : Categorize) (e : BasicTextError) → r ≡ Err e → 4 ∷ 0x1a ∷ error_numbers e ≡ categorize_of s c

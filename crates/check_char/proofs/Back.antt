@@ -15,13 +15,12 @@ use Rattle.scalars.specs.Chars.{is_char}
 use Rattle.replace.specs.Replace.{replace_of}
 use Rattle.check_char.specs.declared.BasicTextError.{BasicTextError}
 use Rattle.check_char.specs.declared.BasicTextError.TheVariants.{ColorEscapeSequence, ControlCode, DeprecatedFormatChar, Escape, BidiFormatChar, Interlinear, LanguageTag, LineSeparation, NonChar, ParaSeparation, UnneededBOM, OutOfBand, Omit, Beyyal, UnrecognizedEscape, Replacement}
-use Rattle.check_char.specs.declared.Checked.{Checked}
-use Rattle.check_char.specs.declared.Checked.TheVariants.{Ok, Err}
-use Rattle.check_char.specs.declared.Answer.{Answer}
-use Rattle.check_char.specs.declared.Answer.TheVariants.{Accepted, NotAChar, Refused}
+use Rattle.check_char.specs.declared.CheckError.{CheckError}
+use Rattle.check_char.specs.declared.CheckError.TheVariants.{NotAChar, Unwritable}
 use Rattle.check_char.specs.declared.numbers.Reason.{Reason}
 use Rattle.check_char.specs.Check.{reason_of, error_numbers, reason_numbers, check_answer_numbers, check_answer}
 use Rattle.check_char.specs.Numbers.{reason_by}
+use Rattle.std.specs.Prelude.{⊤, Result, Ok, Err}
 
 -- the reason of these numbers
 -- "the reason as the place in `BasicTextError` counted from 1 (2 to 16; 1 is unused)"
@@ -69,22 +68,22 @@ pub error_back : (e : BasicTextError) → error_of (error_numbers e) ≡ e
 error_back e = (told e).0
 
 -- what the check says, by these numbers
-abbrev pub checked_of : List ℕ → Checked
-checked_of ns = cond (eqb (get_or ns 0 0) 0) Ok (Err (error_of ns))
+abbrev pub checked_of : List ℕ → Result ⊤ BasicTextError
+checked_of ns = cond (eqb (get_or ns 0 0) 0) (Ok tt) (Err (error_of ns))
 
-pub checked_back : (r : Checked) → checked_of (reason_numbers r) ≡ r
-checked_back Ok = refl
+pub checked_back : (r : Result ⊤ BasicTextError) → checked_of (reason_numbers r) ≡ r
+checked_back (Ok u) = refl
 checked_back (Err e) = rw (told e).1 (ap Err (error_back e))
 
 -- the entry's answer of these numbers
-abbrev pub answer_of : List ℕ → Answer
-answer_of [] = Accepted
-answer_of (n ∷ ns) = cond (eqb n 0) Accepted (cond (eqb n 1) NotAChar (Refused (error_of ns)))
+abbrev pub answer_of : List ℕ → Result ⊤ CheckError
+answer_of [] = Ok tt
+answer_of (n ∷ ns) = cond (eqb n 0) (Ok tt) (cond (eqb n 1) (Err NotAChar) (Err (Unwritable (error_of ns))))
 
-pub check_back : (a : Answer) → answer_of (check_answer_numbers a) ≡ a
-check_back Accepted = refl
-check_back NotAChar = refl
-check_back (Refused e) = ap Refused (error_back e)
+pub check_back : (a : Result ⊤ CheckError) → answer_of (check_answer_numbers a) ≡ a
+check_back (Ok u) = refl
+check_back (Err NotAChar) = refl
+check_back (Err (Unwritable e)) = ap (λ (r : BasicTextError). Err (Unwritable r)) (error_back e)
 
 -- a character and the reason for which it is refused
 abbrev Named : Type 0
@@ -109,7 +108,7 @@ names units =
 
 -- "4 a character refused by `check_basic_text_char` .. with the reason"
 pub named : (units : Bool) →
-    map (λ (r : Named). check_answer_numbers (Refused r.1)) (names units) ≡ map (λ (r : Named). check_answer units r.0) (names units)
+    map (λ (r : Named). check_answer_numbers (Err (Unwritable r.1))) (names units) ≡ map (λ (r : Named). check_answer units r.0) (names units)
 unfolding is_char replace_of reason_of
 named true = refl
 named false = refl

@@ -9,18 +9,18 @@ use mathlib.Core.Path.{◌≡◌, refl, ap}
 use lib.Dec.{eqb}
 use lib.ListN.{drop, get_or}
 use Rattle.replace.specs.Replace.{replace_of}
+use Rattle.check_char.specs.declared.BasicTextError.{BasicTextError}
 use Rattle.check_char.specs.declared.BasicTextError.TheVariants.{ControlCode}
-use Rattle.check_char.specs.declared.Checked.{Checked}
-use Rattle.check_char.specs.declared.Checked.TheVariants.{Ok, Err}
 use Rattle.check_char.specs.declared.Categorize.{Categorize}
 use Rattle.check_char.specs.declared.Categorized.{Categorized}
 use Rattle.check_char.specs.declared.Categorized.TheVariants.{Char, Sub}
 use Rattle.check_char.specs.Check.{reason_of, check_numbers, categorized_numbers, categorize_of}
 use Rattle.check_char.proofs.Back.{checked_of, checked_back}
+use Rattle.std.specs.Prelude.{⊤, Result, Ok, Err}
 
 -- a record that keeps no reason, and one that keeps the reason for 7
 abbrev new : Categorize
-new = record { error = Ok }
+new = record { error = Ok tt }
 
 abbrev kept : Categorize
 kept = record { error = Err (ControlCode 7) }
@@ -54,5 +54,5 @@ categorized_of ns =
     cond (eqb (get_or ns 0 0) 0) (Char (get_or ns 1 0) r) (Sub (get_or ns 1 0) r)
 
 pub categorized_back : (a : Categorized) → categorized_of (categorized_numbers a) ≡ a
-categorized_back (Char c r) = ap (λ (e : Checked). Char c (record { error = e })) (checked_back r.error)
-categorized_back (Sub c r) = ap (λ (e : Checked). Sub c (record { error = e })) (checked_back r.error)
+categorized_back (Char c r) = ap (λ (e : Result ⊤ BasicTextError). Char c (record { error = e })) (checked_back r.error)
+categorized_back (Sub c r) = ap (λ (e : Result ⊤ BasicTextError). Sub c (record { error = e })) (checked_back r.error)

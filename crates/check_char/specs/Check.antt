@@ -1,6 +1,6 @@
 -- Which characters are refused, and why: `check_basic_text_char` of internals/src/check.rs, and beyond it, by the option for units, what
 -- the reason for three signs names.
-use Rattle.std.specs.Prelude.{ℕ, Bool, true, false, cond, not, ◌&&◌, ◌||◌, List, [], ◌∷◌, ◌++◌, eqb}
+use Rattle.std.specs.Prelude.{ℕ, Bool, true, false, cond, not, ◌&&◌, ◌||◌, List, [], ◌∷◌, ◌++◌, eqb, ⊤, Result, Ok, Err}
 use Rattle.scalars.specs.Chars.{is_char}
 use Rattle.replace.specs.declared.Replaced.{Replaced}
 use Rattle.replace.specs.declared.Replaced.TheVariants.{One, Two, Three}
@@ -9,13 +9,11 @@ use Rattle.replace.specs.Replace.{unassigned_replaced, nonchars, replace_of}
 use Rattle.check_char.specs.declared.Replacements.{Replacements}
 use Rattle.check_char.specs.declared.BasicTextError.{BasicTextError}
 use Rattle.check_char.specs.declared.BasicTextError.TheVariants.{ColorEscapeSequence, ControlCode, DeprecatedFormatChar, Escape, BidiFormatChar, Interlinear, LanguageTag, LineSeparation, NonChar, ParaSeparation, UnneededBOM, OutOfBand, Omit, Beyyal, UnrecognizedEscape, Replacement}
-use Rattle.check_char.specs.declared.Checked.{Checked}
-use Rattle.check_char.specs.declared.Checked.TheVariants.{Ok, Err}
+use Rattle.check_char.specs.declared.CheckError.{CheckError}
+use Rattle.check_char.specs.declared.CheckError.TheVariants.{NotAChar, Unwritable}
 use Rattle.check_char.specs.declared.Categorize.{Categorize}
 use Rattle.check_char.specs.declared.Categorized.{Categorized}
 use Rattle.check_char.specs.declared.Categorized.TheVariants.{Char, Sub}
-use Rattle.check_char.specs.declared.Answer.{Answer}
-use Rattle.check_char.specs.declared.Answer.TheVariants.{Accepted, NotAChar, Refused}
 
 -- the signs for ohm, kelvin and angstrom: refused, and replaced with the option for units on alone
 abbrev pub signs : List Span
@@ -93,8 +91,8 @@ error_numbers UnrecognizedEscape = 15 ∷ []
 error_numbers (Replacement list c) = 16 ∷ c ∷ list_numbers list
 
 -- the check's answer: 0 where c is accepted, else the reason's number and its values
-abbrev pub reason_numbers : Checked → List ℕ
-reason_numbers Ok = 0 ∷ []
+abbrev pub reason_numbers : Result ⊤ BasicTextError → List ℕ
+reason_numbers (Ok u) = 0 ∷ []
 reason_numbers (Err e) = error_numbers e
 
 -- the values that reason r carries for c, with the option on or off: "reasons 2, 3, 13, 16 carry it, 16 also its one to three
@@ -113,10 +111,10 @@ unfoldable pub check_numbers : ℕ → List ℕ
 check_numbers c = check_by false c
 
 -- the entry's answer: 0 for accepted, 1 for no character, 4 with the reason's number and values
-abbrev pub check_answer_numbers : Answer → List ℕ
-check_answer_numbers Accepted = 0 ∷ []
-check_answer_numbers NotAChar = 1 ∷ []
-check_answer_numbers (Refused e) = 4 ∷ error_numbers e
+abbrev pub check_answer_numbers : Result ⊤ CheckError → List ℕ
+check_answer_numbers (Ok u) = 0 ∷ []
+check_answer_numbers (Err NotAChar) = 1 ∷ []
+check_answer_numbers (Err (Unwritable e)) = 4 ∷ error_numbers e
 
 -- "Entries on one character give 1 .. the check then 4."; "The check's own entry takes it too"
 abbrev pub check_answer : Bool → ℕ → List ℕ
@@ -125,7 +123,7 @@ check_answer units c = cond (is_char c) (cond (eqb (reason_of c) 0) (0 ∷ []) (
 -- ---- `Categorize`
 -- `new`: no reason is kept
 abbrev pub unrefused : Categorize
-unrefused = record { error = Ok }
+unrefused = record { error = Ok tt }
 
 -- a step's answer: 0 or 4, the character handed on, and the reason that the record keeps
 abbrev pub categorized_numbers : Categorized → List ℕ

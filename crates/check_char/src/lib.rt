@@ -7,6 +7,7 @@
 mod numbers;
 
 ghost use Rattle.std.specs.Prelude.{◌≡◌};
+ghost use Rattle.check_char.specs.declared.CheckError.TheVariants.{Unwritable};
 ghost use Rattle.check_char.specs.Check.{reason_of, three_and_count, reason_numbers, check_by, check_numbers, check_answer_numbers, check_answer, unrefused, categorized_numbers, categorize_of};
 
 pub use numbers::{Reason, reason_of};
@@ -14,7 +15,7 @@ use replace::{Replaced, replace_by};
 use scalars::{BOM, ORC, SUB, is_char};
 
 // The replacements that a reason names, as the Rust's `Box<[char]>`: how many, and three characters, 0 past that many.
-#[derive(Clone, Copy)]
+#[derive(Clone, Copy, Debug, PartialEq, Eq)]
 pub struct Replacements {
     pub count: u32,
     pub first: u32,
@@ -23,7 +24,7 @@ pub struct Replacements {
 }
 
 // Why a character, or a sequence of characters, is refused. A reason's number is its place here, counted from 1.
-#[derive(Clone, Copy)]
+#[derive(Clone, Copy, Debug, PartialEq, Eq)]
 pub enum BasicTextError {
     ColorEscapeSequence,
     ControlCode(u32),
@@ -41,13 +42,6 @@ pub enum BasicTextError {
     Beyyal,
     UnrecognizedEscape,
     Replacement { yes: Replacements, no: u32 },
-}
-
-// The Rust's `Result<(), BasicTextError>`.
-#[derive(Clone, Copy)]
-pub enum Checked {
-    Ok,
-    Err(BasicTextError),
 }
 
 // The number of the reason for which c is refused, and 0 where it is accepted.
@@ -182,64 +176,70 @@ fn listed(r: Replaced) -> Replacements
 }
 
 // Whether c is accepted, and why not, with the option for units on or off. Inner: it does not ask whether c is a character.
-fn check_by(units: bool, c: u32) -> Checked
+fn check_by(units: bool, c: u32) -> Result<(), BasicTextError>
     ensures { reason_numbers result ≡ check_by units c }
 {
     let number = reason(c);
     match number {
-        0 => Checked::Ok,
-        2 => Checked::Err(BasicTextError::ControlCode(c)),
-        3 => Checked::Err(BasicTextError::DeprecatedFormatChar(c)),
-        5 => Checked::Err(BasicTextError::BidiFormatChar),
-        6 => Checked::Err(BasicTextError::Interlinear),
-        7 => Checked::Err(BasicTextError::LanguageTag),
-        8 => Checked::Err(BasicTextError::LineSeparation),
-        9 => Checked::Err(BasicTextError::NonChar),
-        10 => Checked::Err(BasicTextError::ParaSeparation),
-        11 => Checked::Err(BasicTextError::UnneededBOM),
-        12 => Checked::Err(BasicTextError::OutOfBand),
-        13 => Checked::Err(BasicTextError::Omit(c)),
-        14 => Checked::Err(BasicTextError::Beyyal),
+        0 => Ok(()),
+        2 => Err(BasicTextError::ControlCode(c)),
+        3 => Err(BasicTextError::DeprecatedFormatChar(c)),
+        5 => Err(BasicTextError::BidiFormatChar),
+        6 => Err(BasicTextError::Interlinear),
+        7 => Err(BasicTextError::LanguageTag),
+        8 => Err(BasicTextError::LineSeparation),
+        9 => Err(BasicTextError::NonChar),
+        10 => Err(BasicTextError::ParaSeparation),
+        11 => Err(BasicTextError::UnneededBOM),
+        12 => Err(BasicTextError::OutOfBand),
+        13 => Err(BasicTextError::Omit(c)),
+        14 => Err(BasicTextError::Beyyal),
         _ => {
             let yes = listed(replace_by(units, c));
-            Checked::Err(BasicTextError::Replacement { yes, no: c })
+            Err(BasicTextError::Replacement { yes, no: c })
         }
     }
 }
 
 // The same with the option off, for a write and the check of a run. Inner, as `check_by`.
-pub fn check_basic_text_char(c: u32) -> Checked
+pub fn check_basic_text_char(c: u32) -> Result<(), BasicTextError>
     ensures { reason_numbers result ≡ check_numbers c }
 {
     check_by(false, c)
 }
 
-// Accepted, no character (1), or refused for a reason (4).
-#[derive(Clone, Copy)]
-pub enum Answer {
-    Accepted,
+// Why the entry refuses a number.
+#[derive(Clone, Copy, Debug, PartialEq, Eq)]
+pub enum CheckError {
+    // It is no character: 1.
     NotAChar,
-    Refused(BasicTextError),
+    // The check refuses it, for this reason: 4.
+    Unwritable(BasicTextError),
+}
+
+impl From<BasicTextError> for CheckError {
+    ghost from_gives = { λ e r. r ≡ Unwritable e };
+
+    fn from(e: BasicTextError) -> Self {
+        CheckError::Unwritable(e)
+    }
 }
 
 // Whether the character c is accepted, with the option on or off. Total: refuses 1, then 4 with the reason.
-pub fn check(units: bool, c: u32) -> Answer
+pub fn check(units: bool, c: u32) -> Result<(), CheckError>
     ensures { check_answer_numbers result ≡ check_answer units c }
 {
-    if is_char(c) {
-        let checked = check_by(units, c);
-        return match checked {
-            Checked::Ok => Answer::Accepted,
-            Checked::Err(e) => Answer::Refused(e),
-        };
+    if !is_char(c) {
+        return Err(CheckError::NotAChar);
     }
-    Answer::NotAChar
+    check_by(units, c)?;
+    Ok(())
 }
 
 // The record of `Categorize`: the reason for which a character was last refused, the Rust's shared cell.
 #[derive(Clone, Copy)]
 pub struct Categorize {
-    pub error: Checked,
+    pub error: Result<(), BasicTextError>,
 }
 
 // The character that is handed on, as it came or SUB, 1A, in its place; with the record after, which keeps the reason.
@@ -255,7 +255,7 @@ impl Categorize {
     pub fn new() -> Self
         ensures { result ≡ unrefused }
     {
-        Categorize { error: Checked::Ok }
+        Categorize { error: Ok(()) }
     }
 
     // One character. Inner: it does not ask whether c is a character.
@@ -264,13 +264,8 @@ impl Categorize {
     {
         let checked = check_basic_text_char(c);
         match checked {
-            Checked::Ok => Categorized::Char(c, self),
-            Checked::Err(e) => Categorized::Sub(
-                SUB,
-                Categorize {
-                    error: Checked::Err(e),
-                },
-            ),
+            Ok(()) => Categorized::Char(c, self),
+            Err(e) => Categorized::Sub(SUB, Categorize { error: Err(e) }),
         }
     }
 }

@@ -1,11 +1,11 @@
 -- What each character is replaced by: `replace` of internals/src/replace.rs, row by row in its order, and the rows that an option adds.
-use Rattle.std.specs.Prelude.{ℕ, List, [], ◌∷◌, ◌++◌, Bool, true, false, cond}
+use Rattle.std.specs.Prelude.{ℕ, List, [], ◌∷◌, ◌++◌, Bool, true, false, cond, Result, Ok, Err}
 use Rattle.replace.specs.declared.Replaced.{Replaced}
 use Rattle.replace.specs.declared.Replaced.TheVariants.{One, Two, Three}
-use Rattle.replace.specs.declared.Answer.{Answer}
-use Rattle.replace.specs.declared.Answer.TheVariants.{Chars, Refused}
+use Rattle.common.specs.Answers.{refusal_number}
 use Rattle.scalars.specs.Chars.{is_char}
 use Rattle.replace.specs.Table.{Span, ◌to◌, one, Row, ◌gives◌, lookup, each}
+use Rattle.common.specs.declared.Refusal.{Refusal}
 
 -- the characters of an answer, in order
 abbrev pub chars : Replaced → List ℕ
@@ -99,9 +99,9 @@ unfoldable pub replace_of : Bool → ℕ → Replaced
 replace_of units c = lookup (rows_by units) (One c) c
 
 -- an answer of the entry by document 01's numbers: 0 and the one to three characters, or the refusal's number
-abbrev pub replacement_numbers : Answer → List ℕ
-replacement_numbers (Chars r) = 0 ∷ chars r
-replacement_numbers (Refused n) = n ∷ []
+abbrev pub replacement_numbers : Result Replaced Refusal → List ℕ
+replacement_numbers (Ok r) = 0 ∷ chars r
+replacement_numbers (Err e) = refusal_number e ∷ []
 
 -- "Entries on one character give 1"
 abbrev pub replacement_of : Bool → ℕ → List ℕ

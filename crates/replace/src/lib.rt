@@ -6,7 +6,7 @@
 ghost use Rattle.std.specs.Prelude.{◌≡◌, false};
 ghost use Rattle.replace.specs.Replace.{replace_of, replacement_numbers, replacement_of};
 
-use common::NOT_A_CHAR;
+use common::Refusal;
 use scalars::{BOM, FF, LS, NEL, ORC, PS, REPL, WJ, is_char};
 
 // One to three characters.
@@ -166,19 +166,12 @@ pub fn replace_by(units: bool, c: u32) -> Replaced
     replace(c)
 }
 
-// What replaces a character, or the number of the refusal.
-#[derive(Clone, Copy)]
-pub enum Answer {
-    Chars(Replaced),
-    Refused(u32),
-}
-
 // What replaces the character c, with the option on or off. Total: a number that is no character is refused by 1.
-pub fn replacement(units: bool, c: u32) -> Answer
+pub fn replacement(units: bool, c: u32) -> Result<Replaced, Refusal>
     ensures { replacement_numbers result ≡ replacement_of units c }
 {
     if is_char(c) {
-        return Answer::Chars(replace_by(units, c));
+        return Ok(replace_by(units, c));
     }
-    Answer::Refused(NOT_A_CHAR)
+    Err(Refusal::NotAChar)
 }

@@ -17,7 +17,6 @@ use lib.Dec.{eqb}
 use lib.ListN.{drop, get_or}
 use borrow.Author.Tests.{eqb-true, eq-eqb}
 use Rattle.common.proofs.Kit.{never, by}
-use Rattle.check_char.specs.declared.Checked.TheVariants.{Ok}
 use Rattle.check_char.specs.declared.Categorize.{Categorize}
 use Rattle.check_char.specs.declared.Categorized.{Categorized}
 use Rattle.check_char.specs.declared.Categorized.TheVariants.{Char, Sub}
@@ -37,6 +36,7 @@ use Rattle.text_output.specs.Write.{checked, put_crlf}
 use Rattle.text_output_write.specs.Inner.{machine_at, stored, stop_numbers, progress, is_crlf, handed_on, turn_of, isolator_after}
 use Rattle.text_output_write.proofs.Asked.{refused_stops}
 use Rattle.text_output_write.proofs.Rest.{and_then_alike, step_error, steps_one, steps_joined, accepted_no_sub, given_joined}
+use Rattle.std.specs.Prelude.{Ok}
 
 -- ---- what the isolator puts before
 abbrev pub two : Isolated → Bool
@@ -86,7 +86,7 @@ module _ (c d : ℕ) (r : Categorize) where
     pub sub : d ≡ checked c
     pub is : checked c ≡ 0x1A
     pub reason : reason_numbers r.error ≡ check_numbers c
-    pub some : r.error ≡ Ok → ⊥
+    pub some : r.error ≡ Ok tt → ⊥
 
   pub sub-stops : Told c (Sub d r) → Stopping
   unfolding check_numbers

@@ -20,10 +20,12 @@ use Rattle.ranges.specs.Ranges.{member, firsts_of, lasts_of}
 use Rattle.ranges.proofs.Laws.{clears, member_clear}
 use Rattle.page.specs.Page.{accepted}
 use Rattle.page.proofs.PageLaws.{facts_of_accepted}
-use Rattle.text_utils.specs.declared.Class.{Class}
-use Rattle.text_utils.specs.declared.Class.TheVariants.{Is, Refused}
 use Rattle.text_utils.specs.Tables.{grapheme_extend, emoji_modifier, spacing_mark, consonant_preceding_repha, consonant_prefixed, prepended_concatenation_mark}
+use Rattle.common.specs.declared.Refusal.TheVariants.{NotAChar}
+use Rattle.common.proofs.Answers.{refusal_by, refusal_back}
 use Rattle.text_utils.specs.Classes.{listed, starter, grapheme_extend_not_cgj, spacing_mark_plus, basic_text_start, basic_text_end, is_private_use, class_numbers}
+use Rattle.common.specs.declared.Refusal.{Refusal}
+use Rattle.std.specs.Prelude.{Result, Ok, Err}
 
 -- being m, as a range of one character
 pub one_char : (m c : ℕ) → leb m c && leb c m ≡ eqb c m
@@ -108,12 +110,12 @@ unfolding is_private_use member
 private_use_lem c = simp or-false
 
 -- the answer of these numbers
-abbrev pub class_of : List ℕ → Class
-class_of [] = Refused 0
-class_of (n ∷ []) = Refused n
-class_of (n ∷ b ∷ ns) = Is (eqb b 1)
+abbrev pub class_of : List ℕ → Result Bool Refusal
+class_of [] = Err NotAChar
+class_of (n ∷ []) = Err (refusal_by n)
+class_of (n ∷ b ∷ ns) = Ok (eqb b 1)
 
-pub class_back : (a : Class) → class_of (class_numbers a) ≡ a
-class_back (Is true) = refl
-class_back (Is false) = refl
-class_back (Refused n) = refl
+pub class_back : (a : Result Bool Refusal) → class_of (class_numbers a) ≡ a
+class_back (Ok true) = refl
+class_back (Ok false) = refl
+class_back (Err e) = rw (refusal_back e)

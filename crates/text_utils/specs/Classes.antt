@@ -1,12 +1,12 @@
 -- The boundary classes of internals/src/text_utils.rs, over the properties of UAX #44 and the rules of UAX #29, Table 2. They are
 -- defined on every number.
-use Rattle.std.specs.Prelude.{Bool, not, cond, ◌&&◌, ◌||◌, List, [], ◌∷◌, ℕ, leb, ltb, eqb}
+use Rattle.std.specs.Prelude.{Bool, not, cond, ◌&&◌, ◌||◌, List, [], ◌∷◌, ℕ, leb, ltb, eqb, Result, Ok, Err}
 use Rattle.scalars.specs.Chars.{is_char}
 use Rattle.ranges.specs.Ranges.{member, firsts_of, lasts_of}
 use Rattle.page.specs.Page.{nonstarter, accepted}
-use Rattle.text_utils.specs.declared.Class.{Class}
-use Rattle.text_utils.specs.declared.Class.TheVariants.{Is, Refused}
 use Rattle.text_utils.specs.Tables.{grapheme_extend, emoji_modifier, spacing_mark, spacing_mark_exceptions, consonant_preceding_repha, consonant_prefixed, prepended_concatenation_mark, private_use}
+use Rattle.common.specs.declared.Refusal.{Refusal}
+use Rattle.common.specs.Answers.{refusal_number}
 
 -- c has the property whose ranges the table lists
 abbrev pub listed : List (ℕ × ℕ) → ℕ → Bool
@@ -60,9 +60,9 @@ flag b = cond b 1 0
 
 -- an answer by document 01's numbers: 0 and whether c is in the class, or the refusal's number
 -- "a definition lists this paper's number and values for each case"
-abbrev pub class_numbers : Class → List ℕ
-class_numbers (Is b) = 0 ∷ flag b ∷ []
-class_numbers (Refused n) = n ∷ []
+abbrev pub class_numbers : Result Bool Refusal → List ℕ
+class_numbers (Ok b) = 0 ∷ flag b ∷ []
+class_numbers (Err e) = refusal_number e ∷ []
 
 -- "Entries on one character give 1 (the start class 2, then 1)"
 abbrev pub start_class : List ℕ → ℕ → List ℕ

@@ -13,7 +13,7 @@ ghost use Rattle.page.specs.Page.{accepted};
 ghost use Rattle.text_utils.specs.Tables.{emoji_modifier, spacing_mark, spacing_mark_exceptions, consonant_preceding_repha, consonant_prefixed, prepended_concatenation_mark};
 ghost use Rattle.text_utils.specs.Classes.{listed, starter, grapheme_extend_not_cgj, spacing_mark_plus, basic_text_start, lacked_by_rust, basic_text_end, is_private_use, class_numbers, start_class, end_class};
 
-use common::{NOT_A_CHAR, WRONG_PAGE};
+use common::Refusal;
 use page::{is_accepted, is_nonstarter};
 use ranges::{in_packed, in_ranges};
 use scalars::{ZWJ, is_char};
@@ -170,32 +170,25 @@ pub fn is_private_use_area(c: u32) -> bool
     )
 }
 
-// Whether a character is in a class, or the number of the refusal.
-#[derive(Clone, Copy)]
-pub enum Class {
-    Is(bool),
-    Refused(u32),
-}
-
 // Whether the character c may start a text. Total: refuses 2, then 1.
-pub fn start_class(page: &[u32], c: u32) -> Class
+pub fn start_class(page: &[u32], c: u32) -> Result<bool, Refusal>
     ensures { class_numbers result ≡ start_class page.now c }
 {
     if is_accepted(page) {
         if is_char(c) {
-            return Class::Is(is_basic_text_start(page, c));
+            return Ok(is_basic_text_start(page, c));
         }
-        return Class::Refused(NOT_A_CHAR);
+        return Err(Refusal::NotAChar);
     }
-    Class::Refused(WRONG_PAGE)
+    Err(Refusal::WrongPage)
 }
 
 // Whether the character c may end a text. Total: refuses 1.
-pub fn end_class(c: u32) -> Class
+pub fn end_class(c: u32) -> Result<bool, Refusal>
     ensures { class_numbers result ≡ end_class c }
 {
     if is_char(c) {
-        return Class::Is(is_basic_text_end(c));
+        return Ok(is_basic_text_end(c));
     }
-    Class::Refused(NOT_A_CHAR)
+    Err(Refusal::NotAChar)
 }
