@@ -14,7 +14,6 @@ use lib.Seq.{sets}
 use borrow.Author.Tests.{le-ltb}
 use Rattle.scalars.specs.Chars.{are_chars}
 use Rattle.page.specs.Page.{accepted}
-use Rattle.common.specs.declared.Answer.TheVariants.{Written, Refused}
 use Rattle.common.specs.Answers.{written_numbers}
 use Rattle.text_input.specs.declared.Options.{Options}
 use Rattle.text_input.specs.declared.TextInput.{TextInput}
@@ -29,6 +28,8 @@ use Rattle.text_input.proofs.Calls as calls
 use Rattle.basic_text.specs.Exports.{numbers_of, bytes_of}
 use Rattle.basic_text.proofs.Laws.{Bytes, length_numbers, with_all, with_filled}
 use Rattle.basic_text.proofs.Stores.{stored_first}
+use Rattle.std.specs.Prelude.{Ok, Err}
+use Rattle.common.specs.declared.Refusal.TheVariants.{NoRoom}
 
 -- the answer s and the queue's bytes q are those of an outcome on the queue's numbers
 abbrev pub Answers : List ℕ → Outcome → Scanned → List ℕ → Type 0
@@ -78,9 +79,9 @@ asked a =
     }
 
 module _ (a : AskedBytes) where
-  pub scan_refused : (a.no ≡ 0 → ⊥) → Answers a.queue (whole (asked a)) (record { answer = Refused a.no; next = a.r }) a.queue
+  pub scan_refused : (a.no ≡ 0 → ⊥) → Answers a.queue (whole (asked a)) (record { answer = Err a.no; next = a.r }) a.queue
   scan_refused h =
-      left_as_it_was a.queue (record { answer = Refused a.no; next = a.r }) (whole (asked a)) a.bytes (refused_is (asked a) h)
+      left_as_it_was a.queue (record { answer = Err a.no; next = a.r }) (whole (asked a)) a.bytes (refused_is (asked a) h)
 
   module _ (z : a.no ≡ 0) where
     pub few : a.r.count + length a.chunk / 4 ≤ max_count
@@ -97,18 +98,18 @@ module _ (a : AskedBytes) where
       pub scan_accepted : (ran : Ran) (q : List ℕ) →
           (ran ≡ ran_by 0 (run_of a.page a.options first (drop from (numbers_of a.chunk))))
           × (q ≡ sets a.queue 0 (bytes_of (outs a.page a.options first (drop from (numbers_of a.chunk)))))
-          → Answers a.queue (whole (asked a)) (record { answer = Written ran.written; next = ran.next }) q
+          → Answers a.queue (whole (asked a)) (record { answer = Ok ran.written; next = ran.next }) q
       scan_accepted ran q h =
           let out = outs a.page a.options first (drop from (numbers_of a.chunk)) in
-          first_filled a.queue out q (record { answer = Written ran.written; next = ran.next }) (whole (asked a)) a.bytes room h.1
+          first_filled a.queue out q (record { answer = Ok ran.written; next = ran.next }) (whole (asked a)) a.bytes room h.1
           (accepted_is (asked a) z from f first same ran (sets (numbers_of a.queue) 0 out) (h.0, refl))
 
 -- ---- a finish
 module _ (r : TextInput) (eof : Bool) (queue : List ℕ) where
   pub finish_refused : Bytes queue → length queue / 4 < 2 →
-      Answers queue (finish_of r eof (numbers_of queue)) (record { answer = Refused 8; next = r }) queue
+      Answers queue (finish_of r eof (numbers_of queue)) (record { answer = Err NoRoom; next = r }) queue
   finish_refused k h =
-      left_as_it_was queue (record { answer = Refused 8; next = r }) _ k
+      left_as_it_was queue (record { answer = Err NoRoom; next = r }) _ k
       (calls.finish_refused r eof (numbers_of queue) (omega (arith, length_numbers queue)))
 
   -- a finish on two places answered s and left them so
@@ -125,10 +126,10 @@ module _ (r : TextInput) (eof : Bool) (queue : List ℕ) where
     unfolding finish_of
     places = ap (λ (x : Outcome). x.places) e
 
-    pub never_refused : (k : ℕ) → s.answer ≡ Refused k → ⊥
+    pub never_refused : (k : ℕ) → s.answer ≡ Err k → ⊥
     never_refused k h = let g = rw h at listed in let z : ◌≡◌ {A = ℕ} 0 1 = cc in omega arith
 
-    module _ (n : ℕ) (h : s.answer ≡ Written n) where
+    module _ (n : ℕ) (h : s.answer ≡ Ok n) where
       count : n ≡ length (finish_chars r eof)
       count = let g = rw h at listed in cc
 

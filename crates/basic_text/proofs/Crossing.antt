@@ -9,7 +9,6 @@
 use Prim.Native.Nat.{ℕ, suc, ◌+◌, ◌*◌, ◌<◌, ◌/◌, ◌%◌}
 use mathlib.Core.Bool.{Bool, true, false}
 use mathlib.Core.Path.{◌≡◌, refl}
-use Rattle.common.specs.declared.Answer.TheVariants.{Written, Refused as Turned}
 use Rattle.check_char.specs.declared.BasicTextError.{BasicTextError}
 use Rattle.check_char.specs.declared.BasicTextError.TheVariants.{ColorEscapeSequence, ControlCode, DeprecatedFormatChar, Escape, BidiFormatChar, Interlinear, LanguageTag, LineSeparation, NonChar, ParaSeparation, UnneededBOM, OutOfBand, Omit, Beyyal, UnrecognizedEscape, Replacement}
 use Rattle.check_char.proofs.Back.{error_of}
@@ -27,6 +26,7 @@ use Rattle.text_input.specs.declared.TextInput.{TextInput}
 use Rattle.text_output.specs.declared.TextOutput.{TextOutput}
 use Rattle.basic_text_numbers.proofs.Back.{flag_back, state_back, mode_back, writer_state_back}
 use Rattle.basic_text.specs.Exports.{number_of, numbers_of, bytes_of, record_of, options_of, record_numbers, reply_of, writer_of, writer_numbers, write_reply_of}
+use Rattle.std.specs.Prelude.{Ok, Err}
 
 -- "Scan, finish and byte write are exported on numbers and byte slices for the Rust harness."
 pub record_back : (r : TextInput) → record_of (record_numbers r) ≡ r
@@ -103,11 +103,11 @@ options_others n =
 
 -- a reply says what the call answered
 pub reply_written : (n : ℕ) (next : TextInput) (places : List ℕ) →
-    let r = reply_of (outcome (record { answer = Written n; next = next }) places) in (r.refused ≡ 0) × (r.written ≡ n)
+    let r = reply_of (outcome (record { answer = Ok n; next = next }) places) in (r.refused ≡ 0) × (r.written ≡ n)
 reply_written n next places = (refl, refl)
 
 pub reply_refused : (k : ℕ) (next : TextInput) (places : List ℕ) →
-    let r = reply_of (outcome (record { answer = Turned k; next = next }) places) in (r.refused ≡ k) × (r.written ≡ 0)
+    let r = reply_of (outcome (record { answer = Err k; next = next }) places) in (r.refused ≡ k) × (r.written ≡ 0)
 reply_refused k next places = (refl, refl)
 
 abbrev replied : ℕ → Wrote → TextOutput → WriteReply

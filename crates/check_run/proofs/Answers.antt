@@ -9,10 +9,12 @@ use Rattle.common.specs.Answers.{refusal_in}
 use Rattle.common.specs.Order.{◌when◌, first_of}
 use Rattle.scalars.specs.Chars.{are_chars}
 use Rattle.page.specs.Page.{accepted}
-use Rattle.check_run.specs.declared.Verdict.{Verdict}
-use Rattle.check_run.specs.declared.Verdict.TheVariants.{Yes, Fault, Refused}
 use Rattle.check_run.specs.Check.{Found, fault, faults, first_numbers, verdict_numbers, check_run_of}
 use Rattle.check_run.proofs.Laws.{kind_of, kind_back}
+use Rattle.common.specs.declared.Refusal.{Refusal}
+use Rattle.check_run.specs.declared.Fault.{Fault}
+use Rattle.std.specs.Prelude.{Option, Result, Some, None, Ok, Err}
+use Rattle.common.proofs.Answers.{refusal_by, refusal_back}
 
 not_refused : (l : List Found) → refusal_in (first_numbers l) ≡ 0
 not_refused [] = refl
@@ -32,14 +34,14 @@ unfolding check_run_of
 check_run_order p cs = by_tests (accepted p) (are_chars cs) (faults p cs)
 
 -- the answer of these numbers
-abbrev verdict_of : List ℕ → Verdict
-verdict_of [] = Refused 0
-verdict_of (n ∷ []) = Refused n
-verdict_of (n ∷ m ∷ []) = Yes
-verdict_of (n ∷ m ∷ place ∷ []) = Yes
-verdict_of (n ∷ m ∷ place ∷ kind ∷ ns) = Fault place (kind_of kind)
+abbrev verdict_of : List ℕ → Result (Option Fault) Refusal
+verdict_of [] = Ok None
+verdict_of (n ∷ []) = Err (refusal_by n)
+verdict_of (n ∷ m ∷ []) = Ok None
+verdict_of (n ∷ m ∷ place ∷ []) = Ok None
+verdict_of (n ∷ m ∷ place ∷ kind ∷ ns) = Ok (Some (record { place = place; kind = kind_of kind }))
 
-pub verdict_back : (v : Verdict) → verdict_of (verdict_numbers v) ≡ v
-verdict_back Yes = refl
-verdict_back (Fault place kind) = ap (Fault place) (kind_back kind)
-verdict_back (Refused n) = refl
+pub verdict_back : (v : Result (Option Fault) Refusal) → verdict_of (verdict_numbers v) ≡ v
+verdict_back (Ok None) = refl
+verdict_back (Ok (Some f)) = rw (kind_back f.kind)
+verdict_back (Err e) = rw (refusal_back e)

@@ -1,13 +1,14 @@
 -- The entry: what the check of a run answers, and what the answer says. Nothing is lent to be written. Document 02, A.1.
-use Rattle.std.specs.Prelude.{ℕ, suc, Bool, true, false, not, cond, ◌&&◌, List, [], ◌∷◌, ◌++◌, ◌≡◌, eqb}
+use Rattle.std.specs.Prelude.{ℕ, suc, Bool, true, false, not, cond, ◌&&◌, List, [], ◌∷◌, ◌++◌, ◌≡◌, eqb, Option, Result, Some, None, Ok, Err}
 use Rattle.scalars.specs.Chars.{are_chars}
 use Rattle.page.specs.Page.{accepted}
 use Rattle.text_utils.specs.Classes.{basic_text_start, basic_text_end}
 use Rattle.check_run.specs.declared.FaultKind.{FaultKind}
 use Rattle.check_run.specs.declared.FaultKind.TheVariants.{Char, Start, End, Newline}
-use Rattle.check_run.specs.declared.Verdict.{Verdict}
-use Rattle.check_run.specs.declared.Verdict.TheVariants.{Yes, Fault, Refused}
+use Rattle.common.specs.Answers.{refusal_number}
 use Rattle.check_run.specs.Rules.{Rules, allowed, kind_number, First}
+use Rattle.common.specs.declared.Refusal.{Refusal}
+use Rattle.check_run.specs.declared.Fault.{Fault}
 
 -- ---- the faults of a run, all of them, in reading order
 pub data Found : Type 0 where
@@ -53,10 +54,13 @@ yes_numbers = 0 ∷ 0 ∷ []
 abbrev pub fault_numbers : ℕ → FaultKind → List ℕ
 fault_numbers place kind = 0 ∷ 1 ∷ place ∷ kind_number kind ∷ []
 
-abbrev pub verdict_numbers : Verdict → List ℕ
-verdict_numbers Yes = yes_numbers
-verdict_numbers (Fault place kind) = fault_numbers place kind
-verdict_numbers (Refused n) = n ∷ []
+abbrev pub found_numbers : Option Fault → List ℕ
+found_numbers None = yes_numbers
+found_numbers (Some f) = fault_numbers f.place f.kind
+
+abbrev pub verdict_numbers : Result (Option Fault) Refusal → List ℕ
+verdict_numbers (Ok found) = found_numbers found
+verdict_numbers (Err e) = refusal_number e ∷ []
 
 -- yes where there is no fault, else the first
 abbrev pub first_numbers : List Found → List ℕ

@@ -7,18 +7,18 @@
 ghost use Rattle.std.specs.Prelude.{◌≡◌, true};
 ghost use Rattle.page.specs.Page.{accepted};
 ghost use Rattle.check_run.specs.Rules.{allowed};
-ghost use Rattle.check_run.specs.Check.{faults, first_numbers, verdict_numbers, check_run_of};
+ghost use Rattle.check_run.specs.Check.{faults, first_numbers, found_numbers, verdict_numbers, check_run_of};
 ghost use Rattle.check_run.specs.Inner.{AllowedUpTo};
 
-use check_char::{Checked, check_basic_text_char};
-use common::{NOT_A_CHAR, WRONG_PAGE};
+use check_char::check_basic_text_char;
+use common::Refusal;
 use page::is_accepted;
 use scalars::{ESC, are_chars};
 use stretch::{ascii_or, first_gap, is_sought, next_gap, plain_end};
 use text_utils::{is_basic_text_end, is_basic_text_start};
 
 // What is wrong at a place. Faults at one place are told in this order.
-#[derive(Clone, Copy)]
+#[derive(Clone, Copy, Debug, PartialEq, Eq)]
 pub enum FaultKind {
     // The check refuses the character, or it is ESC.
     Char,
@@ -30,22 +30,28 @@ pub enum FaultKind {
     Newline,
 }
 
-// What the check says: every rule holds; the first fault, at its place counted from 0; or the number of the refusal.
-#[derive(Clone, Copy)]
-pub enum Verdict {
-    Yes,
-    Fault(usize, FaultKind),
-    Refused(u32),
+// What the check tells: the place of a fault, counted from 0, and its kind.
+#[derive(Clone, Copy, Debug, PartialEq, Eq)]
+pub struct Fault {
+    pub place: usize,
+    pub kind: FaultKind,
+}
+
+impl Fault {
+    fn new(place: usize, kind: FaultKind) -> Self
+        ensures { (result.place ≡ place) × (result.kind ≡ kind) }
+    {
+        Fault { place, kind }
+    }
 }
 
 // Whether the check accepts c, and c is no ESC. Total: it does not ask whether c is a character.
 fn is_allowed(c: u32) -> bool
     ensures { result ≡ allowed c }
 {
-    let checked = check_basic_text_char(c);
-    match checked {
-        Checked::Ok => c != ESC,
-        Checked::Err(_) => false,
+    match check_basic_text_char(c) {
+        Ok(()) => c != ESC,
+        Err(_) => false,
     }
 }
 
@@ -70,46 +76,47 @@ fn allowed_end(run: &[u32]) -> usize
     i
 }
 
-// The first fault of a run. The faults of the first character come before all others, those of the last one's class after every
+// The first fault of a run, none where every rule holds. The faults of the first character come before all others, those of the last one's class after every
 // character that is not allowed. Inner: asks for an accepted page.
-fn first_fault(page: &[u32], run: &[u32]) -> Verdict
+fn first_fault(page: &[u32], run: &[u32]) -> Option<Fault>
     requires { accepted page.now ≡ true }
-    ensures { verdict_numbers result ≡ first_numbers (faults page.now run.now) }
+    ensures { found_numbers result ≡ first_numbers (faults page.now run.now) }
 {
     let n = run.len();
     if n == 0 {
-        return Verdict::Yes;
+        return None;
     }
     if !is_allowed(run[0]) {
-        return Verdict::Fault(0, FaultKind::Char);
+        return Some(Fault::new(0, FaultKind::Char));
     }
     if !is_basic_text_start(page, run[0]) {
-        return Verdict::Fault(0, FaultKind::Start);
+        return Some(Fault::new(0, FaultKind::Start));
     }
     let at = allowed_end(run);
     if at < n {
-        return Verdict::Fault(at, FaultKind::Char);
+        return Some(Fault::new(at, FaultKind::Char));
     }
     let last = run[n - 1];
     if !is_basic_text_end(last) {
-        return Verdict::Fault(n - 1, FaultKind::End);
+        return Some(Fault::new(n - 1, FaultKind::End));
     }
     if last != 0xa {
-        return Verdict::Fault(n - 1, FaultKind::Newline);
+        return Some(Fault::new(n - 1, FaultKind::Newline));
     }
-    Verdict::Yes
+    None
 }
 
-// Whether a run of characters keeps the rules, and the first fault where it does not: "We need a check over a lent run of characters".
+// The first fault of a run of characters, and none where it keeps the rules: "We need a check over a lent run of characters".
 // Total: refuses 2, then 1. Nothing is written.
-pub fn check_run(page: &[u32], run: &[u32]) -> Verdict
+#[tactic(auto, unfolding(crate::specs::Check::check_run_of))]
+pub fn check_run(page: &[u32], run: &[u32]) -> Result<Option<Fault>, Refusal>
     ensures { verdict_numbers result ≡ check_run_of page.now run.now }
 {
-    if is_accepted(page) {
-        if are_chars(run) {
-            return first_fault(page, run);
-        }
-        return Verdict::Refused(NOT_A_CHAR);
+    if !is_accepted(page) {
+        return Err(Refusal::WrongPage);
     }
-    Verdict::Refused(WRONG_PAGE)
+    if !are_chars(run) {
+        return Err(Refusal::NotAChar);
+    }
+    Ok(first_fault(page, run))
 }

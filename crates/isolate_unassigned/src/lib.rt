@@ -13,7 +13,7 @@ ghost use Rattle.isolate_unassigned.specs.Meaning.{to_isolate, isolated};
 ghost use Rattle.isolate_unassigned.specs.Isolate.{places_for_run, isolate_answer, isolate_places};
 ghost use Rattle.isolate_unassigned.specs.Inner.{fresh, isolate_step_of, gives_out, after, isolated_from, Nearer, Moves};
 
-use common::{Answer, NO_ROOM, NOT_A_CHAR, WRONG_PAGE};
+use common::Refusal;
 use page::{assigned_range, is_accepted, is_assigned};
 use ranges::{Range, in_range};
 use scalars::{CGJ, are_chars};
@@ -257,18 +257,19 @@ pub fn isolate_run(page: &[u32], chars: &[u32], out: &mut [u32]) -> usize
 }
 
 // Isolates a run of characters into the first places of out. Total: refuses 2, then 1, then 8, and then leaves every place.
-pub fn isolate(page: &[u32], chars: &[u32], out: &mut [u32]) -> Answer
+pub fn isolate(page: &[u32], chars: &[u32], out: &mut [u32]) -> Result<usize, Refusal>
     ensures answer { written_numbers result ≡ isolate_answer page.now chars.now out.old }
     ensures places { out.new ≡ isolate_places page.now chars.now out.old }
 {
-    if is_accepted(page) {
-        if are_chars(chars) {
-            if places_for(chars) <= out.len() {
-                return Answer::Written(isolate_run(page, chars, out));
-            }
-            return Answer::Refused(NO_ROOM);
-        }
-        return Answer::Refused(NOT_A_CHAR);
+    if !is_accepted(page) {
+        return Err(Refusal::WrongPage);
     }
-    Answer::Refused(WRONG_PAGE)
+    if !are_chars(chars) {
+        return Err(Refusal::NotAChar);
+    }
+    if places_for(chars) <= out.len() {
+        Ok(isolate_run(page, chars, out))
+    } else {
+        Err(Refusal::NoRoom)
+    }
 }

@@ -21,7 +21,6 @@ use lib.Seq.{sets}
 use Rattle.scalars.specs.Chars.{are_chars}
 use Rattle.common.proofs.Kit.{split}
 use Rattle.page.specs.Page.{accepted}
-use Rattle.common.specs.declared.Answer.TheVariants.{Written}
 use Rattle.text_input.specs.declared.State.TheVariants.{Ground}
 use Rattle.text_input.specs.declared.Options.{Options}
 use Rattle.text_input.specs.declared.TextInput.{TextInput}
@@ -35,6 +34,7 @@ use Rattle.text_input.specs.Inner.{outs, ran_by, ending_chars}
 use Rattle.text_input_parts.proofs.Last.{last_three}
 use Rattle.text_input_parts.proofs.Passed.{ChunkPassed, passed}
 use Rattle.text_input.proofs.Room.{part_room, finish_room}
+use Rattle.std.specs.Prelude.{Ok}
 
 -- ---- a scan
 bom_le : (cs : List ℕ) → leading_bom cs ≤ length cs
@@ -90,7 +90,7 @@ module _ (a : Asked) where
         pub accepted_is : (ran : Ran) (q : List ℕ) →
             (ran ≡ ran_by 0 (run_of a.page a.options first (drop from a.chunk)))
             × (q ≡ sets a.queue 0 (outs a.page a.options first (drop from a.chunk)))
-            → outcome (record { answer = Written ran.written; next = ran.next }) q ≡ whole a
+            → outcome (record { answer = Ok ran.written; next = ran.next }) q ≡ whole a
         unfolding scan_of
         accepted_is ran q h = rw (← a.is, eq-eqb a.no 0 z, h.0, h.1, zero-add, f, g)
 
@@ -119,6 +119,6 @@ module _ (r : TextInput) (eof : Bool) (queue : List ℕ) where
     finish_enough = rw h.0 (omega (arith, finish_room r eof))
 
     pub finished_is : (k : ℕ) (q : List ℕ) → (k ≡ length (ending_chars e)) × (q ≡ sets queue 0 (ending_chars e)) →
-        outcome (record { answer = Written k; next = e.next }) q ≡ finish_of r eof queue
+        outcome (record { answer = Ok k; next = e.next }) q ≡ finish_of r eof queue
     unfolding finish_of
     finished_is k q g = rw (le-ltb (length queue) 2 room, g.0, g.1, h.0, h.1)

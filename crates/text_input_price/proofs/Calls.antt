@@ -14,7 +14,6 @@ use lib.Dec.{eqb}
 use lib.ListN.{length, drop, get_or}
 use lib.Seq.{sets}
 use borrow.Author.Tests.{eqb-true, eqb-false, eq-eqb, ne_eqb, lt-ltb}
-use Rattle.common.specs.declared.Answer.TheVariants.{Written}
 use Rattle.common.proofs.Kit.{by}
 use Rattle.scalars.specs.Chars.{are_chars}
 use Rattle.page.specs.Page.{accepted}
@@ -26,6 +25,7 @@ use Rattle.text_input.specs.declared.Ran.{Ran}
 use Rattle.text_input.specs.Scan.{run_of, skipped, opened, outcome, refused, written, scan_chars, scan_next}
 use Rattle.text_input.specs.Inner.{outs, ran_by}
 use Rattle.text_input_price.specs.Price.{places_filled, ask_refusal, ask_of, commit_refusal, commit_of}
+use Rattle.std.specs.Prelude.{Ok}
 
 module _ (r : TextInput) (p : List ℕ) (o : Options) (chunk : List ℕ) where
   abbrev no : ℕ
@@ -93,5 +93,5 @@ module _ (r : TextInput) (p : List ℕ) (o : Options) (chunk : List ℕ) where
 
           pub committed_is : (ran : Ran) (q : List ℕ) →
               (ran ≡ ran_by 0 (run_of p o first (drop from chunk))) × (q ≡ sets queue 0 (outs p o first (drop from chunk)))
-              → outcome (record { answer = Written ran.written; next = ran.next }) q ≡ commit_of r p o chunk queue
+              → outcome (record { answer = Ok ran.written; next = ran.next }) q ≡ commit_of r p o chunk queue
           committed_is ran q g = rw (commit_fits, g.0, g.1, zero-add, f, e)

@@ -7,8 +7,6 @@ use Prim.Native.Nat.{ℕ}
 use mathlib.Core.Path.{◌≡◌, refl}
 use mathlib.Core.List.{List, [], ◌∷◌, map}
 use lib.ListN.{replicate}
-use Rattle.common.specs.declared.Answer.{Answer}
-use Rattle.common.specs.declared.Answer.TheVariants.{Written, Refused as Turned}
 use Rattle.common.specs.Answers.{written_numbers}
 use Rattle.scalars.specs.Chars.{is_char}
 use Rattle.utf16.specs.declared.ByteOrder.{ByteOrder}
@@ -18,6 +16,9 @@ use Rattle.utf16.specs.declared.Decoded.TheVariants.{Chars, Unpaired, Refused}
 use Rattle.utf16.specs.Utf16.{units_of, units_all, utf16_of}
 use Rattle.utf16.specs.Reading.{is_high, is_low, unpaired, unpaired_in, char_of}
 use Rattle.utf16.specs.Entries.{decoded_numbers, decode_answer, decode_places, encode_answer, encode_places}
+use Rattle.common.specs.declared.Refusal.{Refusal}
+use Rattle.std.specs.Prelude.{Result, Ok, Err}
+use Rattle.common.specs.declared.Refusal.TheVariants.{NotAChar, NoRoom}
 
 -- ---- "The Unicode Standard defines both forms."
 -- Unicode Standard, D91: "the code point sequence <004D, 0430, 4E8C, 10302> is represented as <004D 0430 4E8C D800 DF02>"
@@ -40,7 +41,7 @@ in_bytes = (refl, refl)
 -- an order, bytes or characters, how many blank places are lent, the code's answer, and the places afterwards
 pub data Row : Type 0 where
   reading : ByteOrder → List ℕ → ℕ → Decoded → List ℕ → Row
-  writing : ByteOrder → List ℕ → ℕ → Answer → List ℕ → Row
+  writing : ByteOrder → List ℕ → ℕ → Result ℕ Refusal → List ℕ → Row
 
 -- a place that is blank
 abbrev ee : ℕ
@@ -91,19 +92,19 @@ read_table =
 
 abbrev write_table : List Row
 write_table =
-    writing Big [] 0 (Written 0) []
-    ∷ writing Little (0x61 ∷ []) 5 (Written 2) (0x61 ∷ 0x00 ∷ ee ∷ ee ∷ ee ∷ [])
-    ∷ writing Big (0x20AC ∷ []) 4 (Written 2) (0x20 ∷ 0xAC ∷ ee ∷ ee ∷ [])
-    ∷ writing Little (0x10000 ∷ []) 4 (Written 4) (0x00 ∷ 0xD8 ∷ 0x00 ∷ 0xDC ∷ [])
-    ∷ writing Big (0x10FFFF ∷ []) 4 (Written 4) (0xDB ∷ 0xFF ∷ 0xDF ∷ 0xFF ∷ [])
-    ∷ writing Big (0x1F600 ∷ 0xFFFF ∷ []) 8 (Written 6) (0xD8 ∷ 0x3D ∷ 0xDE ∷ 0x00 ∷ 0xFF ∷ 0xFF ∷ ee ∷ ee ∷ [])
-    ∷ writing Little (0xFEFF ∷ []) 4 (Written 2) (0xFF ∷ 0xFE ∷ ee ∷ ee ∷ [])
-    ∷ writing Big (0xFFFE ∷ 0x61 ∷ []) 8 (Written 4) (0xFF ∷ 0xFE ∷ 0x00 ∷ 0x61 ∷ ee ∷ ee ∷ ee ∷ ee ∷ [])
+    writing Big [] 0 (Ok 0) []
+    ∷ writing Little (0x61 ∷ []) 5 (Ok 2) (0x61 ∷ 0x00 ∷ ee ∷ ee ∷ ee ∷ [])
+    ∷ writing Big (0x20AC ∷ []) 4 (Ok 2) (0x20 ∷ 0xAC ∷ ee ∷ ee ∷ [])
+    ∷ writing Little (0x10000 ∷ []) 4 (Ok 4) (0x00 ∷ 0xD8 ∷ 0x00 ∷ 0xDC ∷ [])
+    ∷ writing Big (0x10FFFF ∷ []) 4 (Ok 4) (0xDB ∷ 0xFF ∷ 0xDF ∷ 0xFF ∷ [])
+    ∷ writing Big (0x1F600 ∷ 0xFFFF ∷ []) 8 (Ok 6) (0xD8 ∷ 0x3D ∷ 0xDE ∷ 0x00 ∷ 0xFF ∷ 0xFF ∷ ee ∷ ee ∷ [])
+    ∷ writing Little (0xFEFF ∷ []) 4 (Ok 2) (0xFF ∷ 0xFE ∷ ee ∷ ee ∷ [])
+    ∷ writing Big (0xFFFE ∷ 0x61 ∷ []) 8 (Ok 4) (0xFF ∷ 0xFE ∷ 0x00 ∷ 0x61 ∷ ee ∷ ee ∷ ee ∷ ee ∷ [])
     -- "Writing needs 4 bytes of room for each character and gives 1 and 8 as elsewhere.": also where 2 would do
-    ∷ writing Little (0x61 ∷ []) 3 (Turned 8) (ee ∷ ee ∷ ee ∷ [])
-    ∷ writing Little (0x61 ∷ 0x62 ∷ []) 7 (Turned 8) (ee ∷ ee ∷ ee ∷ ee ∷ ee ∷ ee ∷ ee ∷ [])
-    ∷ writing Little (0xD800 ∷ []) 4 (Turned 1) (ee ∷ ee ∷ ee ∷ ee ∷ [])
-    ∷ writing Big (0x61 ∷ 0x110000 ∷ []) 0 (Turned 1) []
+    ∷ writing Little (0x61 ∷ []) 3 (Err NoRoom) (ee ∷ ee ∷ ee ∷ [])
+    ∷ writing Little (0x61 ∷ 0x62 ∷ []) 7 (Err NoRoom) (ee ∷ ee ∷ ee ∷ ee ∷ ee ∷ ee ∷ ee ∷ [])
+    ∷ writing Little (0xD800 ∷ []) 4 (Err NotAChar) (ee ∷ ee ∷ ee ∷ ee ∷ [])
+    ∷ writing Big (0x61 ∷ 0x110000 ∷ []) 0 (Err NotAChar) []
     ∷ []
 
 pub read_examples : map computed read_table ≡ map expected read_table
