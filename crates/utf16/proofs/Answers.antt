@@ -12,12 +12,13 @@ use Rattle.common.specs.Answers.{refusal_in}
 use Rattle.common.specs.Order.{◌when◌, first_of}
 use Rattle.scalars.specs.Chars.{are_chars}
 use Rattle.utf16.specs.declared.ByteOrder.{ByteOrder}
-use Rattle.utf16.specs.declared.Decoded.{Decoded}
-use Rattle.utf16.specs.declared.Decoded.TheVariants.{Chars, Unpaired, Refused}
 use Rattle.utf16.specs.Utf16.{utf16_of}
 use Rattle.utf16.specs.Reading.{units_in, unpaired_at, unpaired_in, chars_in}
 use Rattle.utf16.specs.Entries.{decoded_numbers, paired_answer, decode_answer, encode_answer}
 use Rattle.utf16.proofs.Places.{some, any, some_listed}
+use Rattle.utf16.specs.declared.DecodeError.{DecodeError}
+use Rattle.utf16.specs.declared.DecodeError.TheVariants.{OddBytes, Unpaired, NoRoom}
+use Rattle.std.specs.Prelude.{Result, Ok, Err}
 
 -- by whether the bytes are odd in number (a), the unpaired units (l), and whether there are too few places (r)
 decode_by : (a r : Bool) (l : List ℕ) (n room : ℕ) → ltb room n ≡ r →
@@ -52,12 +53,13 @@ unfolding encode_answer
 encode_order o cs out = encode_by (are_chars cs) (ltb (length out) (4 * length cs)) (length (utf16_of o cs))
 
 -- ---- an answer read back
-abbrev answer_of : List ℕ → Decoded
-answer_of [] = Refused 0
-answer_of (n ∷ []) = Refused n
-answer_of (n ∷ k ∷ ns) = cond (eqb n 0) (Chars k) (Unpaired k)
+abbrev answer_of : List ℕ → Result ℕ DecodeError
+answer_of [] = Err OddBytes
+answer_of (n ∷ []) = Err (cond (eqb n 14) OddBytes NoRoom)
+answer_of (n ∷ k ∷ ns) = cond (eqb n 0) (Ok k) (Err (Unpaired k))
 
-pub decoded_back : (a : Decoded) → answer_of (decoded_numbers a) ≡ a
-decoded_back (Chars n) = refl
-decoded_back (Unpaired place) = refl
-decoded_back (Refused n) = refl
+pub decoded_back : (a : Result ℕ DecodeError) → answer_of (decoded_numbers a) ≡ a
+decoded_back (Ok n) = refl
+decoded_back (Err OddBytes) = refl
+decoded_back (Err (Unpaired place)) = refl
+decoded_back (Err NoRoom) = refl

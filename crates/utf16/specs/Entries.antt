@@ -1,20 +1,21 @@
 -- The two entries: what reading and writing answer, and the places they leave. Document 02, A.3.
-use Rattle.std.specs.Prelude.{ℕ, ◌*◌, ◌%◌, cond, not, List, [], ◌∷◌, eqb, ltb, length}
+use Rattle.std.specs.Prelude.{ℕ, ◌*◌, ◌%◌, cond, not, List, [], ◌∷◌, eqb, ltb, length, Result, Ok, Err}
 use Rattle.std.proofs.lemmas.List.Edits.{sets}
 use Rattle.common.specs.Answers.{refusal_in, room_refusal}
 use Rattle.scalars.specs.Chars.{are_chars}
 use Rattle.utf16.specs.declared.ByteOrder.{ByteOrder}
-use Rattle.utf16.specs.declared.Decoded.{Decoded}
-use Rattle.utf16.specs.declared.Decoded.TheVariants.{Chars, Unpaired, Refused}
 use Rattle.utf16.specs.Utf16.{utf16_of}
 use Rattle.utf16.specs.Reading.{units_in, unpaired_in, chars_in}
+use Rattle.utf16.specs.declared.DecodeError.{DecodeError}
+use Rattle.utf16.specs.declared.DecodeError.TheVariants.{OddBytes, Unpaired, NoRoom}
 
 -- ---- reading
 -- an answer by numbers: 0 and how many characters; 15 and the place of the unit; or another refusal's number
-abbrev pub decoded_numbers : Decoded → List ℕ
-decoded_numbers (Chars n) = 0 ∷ n ∷ []
-decoded_numbers (Unpaired place) = 15 ∷ place ∷ []
-decoded_numbers (Refused n) = n ∷ []
+abbrev pub decoded_numbers : Result ℕ DecodeError → List ℕ
+decoded_numbers (Ok n) = 0 ∷ n ∷ []
+decoded_numbers (Err (Unpaired place)) = 15 ∷ place ∷ []
+decoded_numbers (Err OddBytes) = 14 ∷ []
+decoded_numbers (Err NoRoom) = 8 ∷ []
 
 -- by the places of unpaired units, the characters decoded and the places lent: "then 15 for an unpaired surrogate, with the first such
 -- unit's place counted from 0, then 8 for lack of room"

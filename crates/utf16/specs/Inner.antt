@@ -1,9 +1,9 @@
 -- What the private functions answer. No entry's contract cites this file.
-use Rattle.std.specs.Prelude.{ℕ, ◌+◌, ◌/◌, ◌≤◌, ◌<◌, Bool, true, false, cond, not, ◌&&◌, ◌||◌, ◌≡◌, List, [], ◌∷◌, leb, length, get_or}
+use Rattle.std.specs.Prelude.{ℕ, ◌+◌, ◌/◌, ◌≤◌, ◌<◌, Bool, true, false, cond, not, ◌&&◌, ◌||◌, ◌≡◌, List, [], ◌∷◌, leb, length, get_or, Result, Ok, Err}
 use Rattle.utf16.specs.declared.ByteOrder.{ByteOrder}
-use Rattle.utf16.specs.declared.Found.{Found}
-use Rattle.utf16.specs.declared.Found.TheVariants.{Paired, Unpaired}
 use Rattle.utf16.specs.Reading.{units_in, is_high, is_low, unpaired_in}
+use Rattle.utf16.specs.declared.DecodeError.{DecodeError}
+use Rattle.utf16.specs.declared.DecodeError.TheVariants.{Unpaired}
 
 -- how many low surrogates there are
 abbrev pub lows : List ℕ → ℕ
@@ -11,11 +11,11 @@ lows [] = 0
 lows (u ∷ us) = cond (is_low u) (lows us + 1) (lows us)
 
 -- by the places of the unpaired units: the first of them; where there is none, how many pairs there are
-abbrev pub found_by : List ℕ → ℕ → Found
-found_by [] pairs = Paired pairs
-found_by (place ∷ later) pairs = Unpaired place
+abbrev pub found_by : List ℕ → ℕ → Result ℕ DecodeError
+found_by [] pairs = Ok pairs
+found_by (place ∷ later) pairs = Err (Unpaired place)
 
-abbrev pub found_in : List ℕ → Found
+abbrev pub found_in : List ℕ → Result ℕ DecodeError
 found_in us = found_by (unpaired_in us) (lows us)
 
 -- ---- stretches without surrogates

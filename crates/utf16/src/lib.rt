@@ -12,25 +12,25 @@ ghost use Rattle.utf16.specs.Reading.{unit_of, units_in, is_high, is_low, char_o
 ghost use Rattle.utf16.specs.Entries.{decoded_numbers, decode_answer, decode_places, encode_answer, encode_places};
 ghost use Rattle.utf16.specs.Inner.{found_in, PlainBytes, PlainTo, OneUnit, OneUnitTo};
 
-use common::{Answer, NO_ROOM, NOT_A_CHAR, ODD_BYTES};
+use common::Refusal;
 use scalars::are_chars;
 
 // Which byte of a unit stands first: the low one, or the high one. "one little-endian and one big-endian"
-#[derive(Clone, Copy)]
+#[derive(Clone, Copy, Debug, PartialEq, Eq)]
 pub enum ByteOrder {
     Little,
     Big,
 }
 
-// What reading answers.
-#[derive(Clone, Copy)]
-pub enum Decoded {
-    // So many characters stand in the first places.
-    Chars(usize),
-    // Refused by 15: the place of the first unpaired surrogate, in units from 0.
+// Why reading is refused.
+#[derive(Clone, Copy, Debug, PartialEq, Eq)]
+pub enum DecodeError {
+    // By 14: the number of bytes is odd.
+    OddBytes,
+    // By 15: a surrogate is unpaired; the place of the first, in units from 0.
     Unpaired(usize),
-    // Refused by this number.
-    Refused(u32),
+    // By 8: there are more characters than places.
+    NoRoom,
 }
 
 // The unit of two bytes, as they stand.
@@ -82,13 +82,6 @@ fn is_low(u: u32) -> bool
     (0xdc00 <= u) & (u <= 0xdfff)
 }
 
-// What a look over all units finds: so many pairs and no unpaired surrogate, or the place of the first unpaired one.
-#[derive(Clone, Copy)]
-enum Found {
-    Paired(usize),
-    Unpaired(usize),
-}
-
 // True only if none of so many bytes from `at` on is one of D8..DF: every surrogate has one. The loop has no early exit, so that it can
 // be vectorised.
 fn is_plain_block(bytes: &[u8], at: usize, size: usize) -> bool
@@ -133,8 +126,8 @@ fn steps_end(i: usize, n: usize) -> usize
     i + 16
 }
 
-// Looks over the units: a stretch without surrogates at once, then some one by one, a pair at once. Total.
-fn look_over(order: ByteOrder, bytes: &[u8]) -> Found
+// How many pairs there are, if no surrogate is unpaired. Looks over the units: a stretch without surrogates at once, then some one by one, a pair at once. Total.
+fn look_over(order: ByteOrder, bytes: &[u8]) -> Result<usize, DecodeError>
     ensures { result ≡ found_in (units_in order bytes.now) }
 {
     let n = bytes.len() / 2;
@@ -147,7 +140,7 @@ fn look_over(order: ByteOrder, bytes: &[u8]) -> Found
             let u = unit_at(order, bytes, i);
             if is_surrogate(u) {
                 if !(is_high(u) & is_low(unit_or_zero(order, bytes, i + 1))) {
-                    return Found::Unpaired(i);
+                    return Err(DecodeError::Unpaired(i));
                 }
                 pairs += 1;
                 i += 2;
@@ -156,7 +149,7 @@ fn look_over(order: ByteOrder, bytes: &[u8]) -> Found
             }
         }
     }
-    Found::Paired(pairs)
+    Ok(pairs)
 }
 
 // The character that the unit u gives with the unit at place i, which is behind it.
@@ -208,27 +201,22 @@ fn store(order: ByteOrder, bytes: &[u8], out: &mut [u32])
     }
 }
 
-// Reads a whole run of bytes as UTF-16: the characters into the first places of out. "Read and write both, from a whole lent run of
+// Reads a whole run of bytes as UTF-16: the characters into the first places of out, and answers how many. "Read and write both, from a whole lent run of
 // bytes, with the order given by the caller." Total: refuses 14, 15, 8, in this order, and then leaves every place.
-pub fn decode_utf16(order: ByteOrder, bytes: &[u8], out: &mut [u32]) -> Decoded
+pub fn decode_utf16(order: ByteOrder, bytes: &[u8], out: &mut [u32]) -> Result<usize, DecodeError>
     ensures answer { decoded_numbers result ≡ decode_answer order bytes.now out.old }
     ensures places { out.new ≡ decode_places order bytes.now out.old }
 {
     if bytes.len() % 2 == 1 {
-        return Decoded::Refused(ODD_BYTES);
+        return Err(DecodeError::OddBytes);
     }
-    let found = look_over(order, bytes);
-    match found {
-        Found::Unpaired(place) => Decoded::Unpaired(place),
-        Found::Paired(pairs) => {
-            let n = bytes.len() / 2 - pairs;
-            if out.len() < n {
-                return Decoded::Refused(NO_ROOM);
-            }
-            store(order, bytes, out);
-            Decoded::Chars(n)
-        }
+    let pairs = look_over(order, bytes)?;
+    let n = bytes.len() / 2 - pairs;
+    if out.len() < n {
+        return Err(DecodeError::NoRoom);
     }
+    store(order, bytes, out);
+    Ok(n)
 }
 
 // Writes a unit's two bytes at a place.
@@ -332,15 +320,16 @@ fn put_chars(order: ByteOrder, chars: &[u32], out: &mut [u8]) -> usize
 
 // Writes characters as UTF-16: their bytes from the first place of out on. Total: refuses 1, then 8 where fewer than 4 bytes are lent for
 // each character, and then leaves every byte.
-pub fn encode_utf16(order: ByteOrder, chars: &[u32], out: &mut [u8]) -> Answer
+#[tactic(auto, unfolding(crate::specs::Entries::encode_answer, crate::specs::Entries::encode_places))]
+pub fn encode_utf16(order: ByteOrder, chars: &[u32], out: &mut [u8]) -> Result<usize, Refusal>
     ensures answer { written_numbers result ≡ encode_answer order chars.now out.old }
     ensures places { out.new ≡ encode_places order chars.now out.old }
 {
-    if are_chars(chars) {
-        if chars.len() <= out.len() / 4 {
-            return Answer::Written(put_chars(order, chars, out));
-        }
-        return Answer::Refused(NO_ROOM);
+    if !are_chars(chars) {
+        return Err(Refusal::NotAChar);
     }
-    Answer::Refused(NOT_A_CHAR)
+    if chars.len() <= out.len() / 4 {
+        return Ok(put_chars(order, chars, out));
+    }
+    Err(Refusal::NoRoom)
 }

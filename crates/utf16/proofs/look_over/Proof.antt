@@ -13,13 +13,14 @@ use lib.ListN.{length, get_or, drop, get_or-eq_default}
 use lib.Seq.{drop-cons, drop-length, get_or-drop}
 use Rattle.common.proofs.Kit.{by_lt, both_true}
 use Rattle.utf16.specs.declared.ByteOrder.{ByteOrder}
-use Rattle.utf16.specs.declared.Found.TheVariants.{Paired, Unpaired}
 use Rattle.utf16.specs.Reading.{units_in, is_high, is_low, next, unpaired_from, unpaired_in}
 use Rattle.utf16.specs.Inner.{lows, found_in, PlainTo}
 use Rattle.utf16.proofs.Units.{length_units, units_inside, units_past}
 use Rattle.utf16.proofs.Pairs.{neither, plain_turn, pair_turn, unpaired_turn, low_bounds}
 use Rattle.utf16.proofs.look_over.Statement.{statement}
 use Rattle.utf16.proofs.look_over.Tie as tie
+use Rattle.utf16.specs.declared.DecodeError.TheVariants.{Unpaired}
+use Rattle.std.specs.Prelude.{Ok, Err}
 
 record Looking (us : List ℕ) (pairs i : ℕ) : Type 0 where
   low : i ≤ length us
@@ -56,7 +57,7 @@ module _ (us : List ℕ) (pairs i : ℕ) (g : Looking us pairs i) where
           count = omega (arith, t.1, simp left_is at g.count);
         }
 
-    found : is_high u || is_low u ≡ true → is_high u && is_low v ≡ false → Unpaired i ≡ found_in us
+    found : is_high u || is_low u ≡ true → is_high u && is_low v ≡ false → Err (Unpaired i) ≡ found_in us
     found p q =
         let t = unpaired_turn i u (drop (i + 1) us) p (rw next_is q) in
         rw (← g.left, left_is, t)
@@ -80,7 +81,7 @@ module _ (us : List ℕ) (pairs i : ℕ) (g : Looking us pairs i) where
           count = omega (arith, t.1, simp (left_is, e) at g.count);
         }
 
-  ended : length us ≤ i → Paired pairs ≡ found_in us
+  ended : length us ≤ i → Ok pairs ≡ found_in us
   ended h =
       let e : i ≡ length us = omega (arith, g.low) in
       let l : unpaired_in us ≡ [] = sym (rw (e, drop-length) at g.left) in
