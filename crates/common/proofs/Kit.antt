@@ -5,14 +5,16 @@
 --     both_true     the parts of an `&&` that holds
 --     both          the other way
 --     or_cases      an `||` that holds, by its parts
+--     err_is        what `?` makes of an error
 --     tests         `search tests` closes a return of an `if` chain whose definition is a chain of `cond` over the same tests;
 --                   `yes`, `no`, `yes_by` and `no_by` are its rules
 use Prim.Native.Nat.{ℕ, ◌≤◌, ◌<◌}
-use mathlib.Core.Path.{◌≡◌, refl, sym, ◌∙◌}
+use mathlib.Core.Path.{◌≡◌, refl, sym, ap, ◌∙◌}
 use mathlib.Core.Bool.{Bool, true, false, cond, ◌&&◌, ◌||◌}
 use mathlib.Core.Logic.{◌⊎◌, inl, inr}
 use native.Mathlib.Omega.{arith}
 use lib.Dec.{ltb}
+use Rattle.std.specs.Prelude.{Result, Ok, Err, IsErrAnd}
 use borrow.Author.Tests.{ltb-true, ltb-false, eq-eqb, ne_eqb, lt-ltb, le-ltb, le-leb, lt-leb}
 
 pub never : {P : Type 0} → false ≡ true → P
@@ -54,3 +56,8 @@ pub no_by : {A : Type 0} (b f : Bool) (x y z : A) → f ≡ false → f ≡ b �
 no_by b f x y z p q e = rw (sym q ∙ p) e
 
 pub ruleset tests = (yes, no, yes_by, no_by, eq-eqb, ne_eqb, lt-ltb, le-ltb, le-leb, lt-leb)
+
+-- the error of a result, by what is known of it
+pub err_is : {A E : Type 0} (r : Result A E) (e : E) → IsErrAnd r (λ x. x ≡ e) → r ≡ Err e
+err_is (Ok _) e h = elim h [ ]
+err_is (Err x) e h = ap Err h

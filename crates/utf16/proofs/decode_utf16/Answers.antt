@@ -8,6 +8,7 @@ use native.Mathlib.Omega.{arith}
 use borrow.Author.Tests.{eq-eqb, ne_eqb, le-ltb, lt-ltb}
 use lib.ListN.{length}
 use lib.Seq.{sets}
+use Rattle.common.proofs.Kit.{err_is}
 use Rattle.utf16.specs.declared.ByteOrder.{ByteOrder}
 use Rattle.utf16.specs.Reading.{units_in, unpaired_in, chars_in}
 use Rattle.utf16.specs.Entries.{decoded_numbers, decode_answer, decode_places}
@@ -89,7 +90,7 @@ store-requires c =
 pub returns-in_err-pairs : goal.returns-in_err-pairs
 returns-in_err-pairs c =
     let r = unpaired _ _ _ c.if-bytes-eq1.false _ (sym c.look_over.ensures ∙ c.in_err-pairs.was) in
-    record { answer = r.0; places = r.1 }
+    record { answer = rw (err_is _ _ c.from_residual.ensures.1) r.0; places = r.1 }
 
 pub returns : goal.returns
 returns c =
