@@ -1,20 +1,19 @@
 -- Filling bytes, on lists. In both loops what is left leads to the same end as the whole.
 --     fits                                         what is encoded fits the buffer
---     Zeroing, zero_begin, -again, -met, -ended    the loop of `clear_to_char_boundary`
 --     Encoding, encode_begin, -asks, -again, -full, -ended   the loop of `encode_queue`
 --     filled_is                                    both one after the other are `fill_of`
-use Prim.Native.Nat.{ℕ, suc, ◌+◌, ◌-◌, ◌≤◌, ◌<◌}
+use Prim.Native.Nat.{ℕ, ◌+◌, ◌-◌, ◌≤◌, ◌<◌}
 use mathlib.Core.Path.{◌≡◌, refl, sym, ◌∙◌}
-use mathlib.Core.Bool.{Bool, true, false, cond}
-use mathlib.Core.List.{List, [], ◌∷◌, ◌++◌, append_assoc, append-nil}
+use mathlib.Core.Bool.{true}
+use mathlib.Core.List.{List, [], ◌∷◌, ◌++◌}
 use native.Mathlib.Omega.{arith}
 use native.Mathlib.Nat.{zero-add, sub-zero}
 use native.Mathlib.Numerals.{add-one}
 use borrow.Author.Tests.{lt-ltb, le-ltb}
-use lib.ListN.{length, get_or, take, drop, set, length-append, length-set, drop_of_length-le, take-append-drop}
-use lib.Seq.{sets, length-sets, drop-cons, take-suc-set, drop-set-lt, take-length, drop-length, drop-append_seam, take-append_seam}
+use lib.ListN.{length, get_or, take, drop, length-append, drop_of_length-le}
+use lib.Seq.{sets, length-sets, drop-cons, drop-append_seam, take-append_seam}
 use Rattle.scalars.specs.Chars.{is_char, are_chars}
-use Rattle.scalars.specs.Utf8.{encode_of, continuation, encode_all}
+use Rattle.scalars.specs.Utf8.{encode_of, encode_all}
 use Rattle.common.proofs.Kit.{by_lt, both_true}
 use Rattle.scalars.proofs.Rows.{length_encode}
 use Rattle.text_input_fill.specs.declared.Filled.TheVariants.{Counts}
@@ -26,36 +25,6 @@ fits free [] = omega arith
 fits free (c ∷ cs) =
     by_lt free 4 (λ h. simp (lt-ltb free 4 h) (omega arith))
     (λ h. simp (le-ltb free 4 h, length-append) (omega (arith, fits (free - length (encode_of c)) cs, (length_encode c).1)))
-
--- ---- zeroing
-module _ (buf₀ : List ℕ) (at : ℕ) where
-  pub record Zeroing (buf : List ℕ) (i : ℕ) : Type 0 where
-    pub inside : i ≤ length buf
-    pub same : length buf ≡ length buf₀
-    pub left : take i buf ++ zeroed (drop i buf) ≡ take at buf₀ ++ zeroed (drop at buf₀)
-
-  pub zero_begin : at ≤ length buf₀ → Zeroing buf₀ at
-  zero_begin h = record { inside = h; same = refl; left = refl }
-
-  module _ (buf : List ℕ) (i : ℕ) (g : Zeroing buf i) where
-    turned : (b : Bool) → i < length buf → continuation (get_or buf i 0) ≡ b → zeroed (drop i buf) ≡ cond b (0 ∷ zeroed (drop (suc i) buf)) (drop i buf)
-    turned b h e = rw (drop-cons buf i 0, e)
-
-    pub zero_again : i < length buf → continuation (get_or buf i 0) ≡ true → Zeroing (set buf i 0) (i + 1)
-    zero_again h e =
-        record {
-          inside = simp length-set (omega arith);
-          same = length-set buf i 0 ∙ g.same;
-          left = rw (add-one, take-suc-set buf i 0 h, drop-set-lt (suc i) buf i 0 (omega arith), append_assoc) (rw (turned true h e) at g.left);
-        }
-
-    pub zero_met : i < length buf → continuation (get_or buf i 0) ≡ false → buf ≡ take at buf₀ ++ zeroed (drop at buf₀)
-    zero_met h e = sym (take-append-drop i buf) ∙ rw (turned false h e) at g.left
-
-    pub zero_ended : length buf ≤ i → buf ≡ take at buf₀ ++ zeroed (drop at buf₀)
-    zero_ended h =
-        let e : i ≡ length buf = omega (arith, g.inside) in
-        sym (take-length buf) ∙ sym (append-nil (take (length buf) buf)) ∙ simp (e, drop-length) at g.left
 
 -- ---- encoding
 module _ (queue buf₀ : List ℕ) where

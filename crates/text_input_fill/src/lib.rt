@@ -19,10 +19,11 @@ pub enum Filled {
 }
 
 // 80..BF: where `is_char_boundary` says no.
+#[tactic(auto, unfolding(scalars::specs::Utf8::continuation))]
 fn is_continuation(b: u8) -> bool
     ensures { result ≡ continuation b }
 {
-    (0x80 <= b) & (b <= 0xbf)
+    matches!(b, 0x80..=0xbf)
 }
 
 // `clear_to_char_boundary`: zeroes continuation bytes from a place on, up to the first other byte.
@@ -31,14 +32,11 @@ fn clear_to_char_boundary(buf: &mut [u8], at: usize)
     requires { at ≤ length buf.old }
     ensures { buf.new ≡ take at buf.old ++ zeroed (drop at buf.old) }
 {
-    let mut i = at;
-    while i < buf.len() {
-        if is_continuation(buf[i]) {
-            buf[i] = 0;
-            i += 1;
-        } else {
+    for b in &mut buf[at..] {
+        if !is_continuation(*b) {
             return;
         }
+        *b = 0;
     }
 }
 
@@ -55,20 +53,22 @@ fn encode_queue(queue: &[u32], buf: &mut [u8]) -> Encoded
     ensures filled { result.bytes ≡ length (encode_all (taken_chars (length buf.old) queue.now)) }
     ensures bytes { buf.new ≡ sets buf.old 0 (encode_all (taken_chars (length buf.old) queue.now)) }
 {
-    let mut i = 0;
-    let mut k = 0;
-    while i < queue.len() {
-        if buf.len() - k < MAX_UTF8_SIZE {
-            return Encoded { taken: i, bytes: k };
+    let mut bytes = 0;
+    for (taken, &c) in queue.iter().enumerate() {
+        if buf.len() - bytes < MAX_UTF8_SIZE {
+            return Encoded { taken, bytes };
         }
-        k = write_utf8(queue[i], buf, k);
-        i += 1;
+        bytes = write_utf8(c, buf, bytes);
     }
-    Encoded { taken: i, bytes: k }
+    Encoded {
+        taken: queue.len(),
+        bytes,
+    }
 }
 
 // Encodes the queue's first characters into the buffer, and answers how many were taken and how many bytes they fill. Total:
 // refuses 7, then 1, and then leaves every byte.
+#[tactic(auto, using(crate::proofs::Filling::fits), unfolding(crate::specs::Fill::fill_of))]
 pub fn fill(queue: &[u32], buf: &mut [u8]) -> Filled
     ensures { fill_outcome result buf.new ≡ fill_of queue.now buf.old }
 {

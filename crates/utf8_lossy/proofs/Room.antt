@@ -3,10 +3,9 @@
 --     room_one       so a chunk of n bytes puts out n + 1 characters at most
 --     replaced_le    no more bytes are replaced than came and were pending
 --     are_chars_lem      all that a chunk puts out is characters; `finish_chars_lem` of a finish
---     more_short     where a byte is held, fewer than three were
 --     pending_short  a record holds three bytes at most
 --     pending_back, chars_back, counted_back   a record, a step's characters and an answer read back from what they list: no two list alike
-use Prim.Native.Nat.{ℕ, ◌+◌, ◌*◌, ◌%◌, ◌≤◌, ◌<◌}
+use Prim.Native.Nat.{ℕ, ◌+◌, ◌*◌, ◌%◌, ◌≤◌}
 use mathlib.Core.Bool.{true, cond}
 use mathlib.Core.List.{List, [], ◌∷◌, ◌++◌}
 use mathlib.Core.Path.{◌≡◌, refl}
@@ -130,28 +129,6 @@ finish_chars_lem [] = refl
 finish_chars_lem (a ∷ p) = both repl refl
 
 -- ---- the record
--- where the last byte of four is taken, it is not held
-Held : Kind → Type 0
-Held (Whole c) = ⊥
-Held More = ℕ
-Held Bad = ⊥
-
-whole_held : (c : ℕ) → Held (whole_of c) → ⊥
-unfolding Held
-whole_held c = split (λ k. Held k → ⊥) (is_char c) (λ h e. e) (λ h e. e)
-
-four_held : (d c : ℕ) → Held (on_tail d (whole_of c)) → ⊥
-unfolding Held
-four_held d c =
-    split (λ k. Held k → ⊥) (ltb d 0x80) (λ h e. e) (λ h. split (λ k. Held k → ⊥) (ltb d 0xC0) (λ i. whole_held c) (λ i e. e))
-
-pub more_short : (p : List ℕ) (b : ℕ) → next_of p b ≡ More → length p < 3
-unfolding Held
-more_short [] b e = omega arith
-more_short (x ∷ []) b e = omega arith
-more_short (x ∷ y ∷ []) b e = omega arith
-more_short (x ∷ y ∷ z ∷ p) b e = absurd (four_held b (x % 8 * 262144 + y % 64 * 4096 + z % 64 * 64 + b % 64) (rw e 0))
-
 pub pending_short : (s : Pending) → length (pending_of s) ≤ 3
 pending_short Nothing = omega arith
 pending_short (One a) = omega arith

@@ -3,7 +3,7 @@
 // each call takes one and answers the one after it. Every entry is total: a record can hold any bytes, and only characters come out.
 #![tactic(auto)]
 
-ghost use Rattle.std.specs.Prelude.{◌≡◌, [], ◌∷◌, ◌++◌, ◌+◌, ◌≤◌, ◌<◌, length};
+ghost use Rattle.std.specs.Prelude.{◌≡◌, ◌&&◌, [], ◌∷◌, ◌++◌, ◌+◌, ◌≤◌, ◌<◌, leb, ltb, length};
 ghost use Rattle.std.proofs.lemmas.List.Edits.{sets};
 ghost use Rattle.utf8_lossy.specs.Machine.{whole_of, next_of, fresh_of, behind, step_of, finish_of};
 ghost use Rattle.utf8_lossy.specs.Decode.{pending_of, chars_out, turn_in, outcome, decode_of};
@@ -69,86 +69,68 @@ fn whole(c: u32) -> Kind
     }
 }
 
+// 80..BF: what every byte of a character but its first is.
+fn is_tail(b: u8) -> bool
+    ensures { result ≡ leb 0x80 b && ltb b 0xc0 }
+{
+    matches!(b, 0x80..=0xbf)
+}
+
 // What a byte is where nothing, and where one, two and three bytes are pending.
 fn first(b: u8) -> Kind
     ensures { result ≡ next_of [] b }
 {
-    if b < 0x80 {
-        return Kind::Whole(b as u32);
+    match b {
+        ..=0x7f => Kind::Whole(u32::from(b)),
+        0xc2..=0xf4 => Kind::More,
+        _ => Kind::Bad,
     }
-    if b < 0xc2 {
-        return Kind::Bad;
-    }
-    if b < 0xf5 {
-        return Kind::More;
-    }
-    Kind::Bad
 }
 
 fn second(a: u8, b: u8) -> Kind
     ensures { result ≡ next_of (a ∷ []) b }
 {
-    if b < 0x80 {
+    if !is_tail(b) {
         return Kind::Bad;
     }
-    if b < 0xc0 {
-        if a < 0xe0 {
-            return Kind::Whole((a as u32) % 32 * 64 + (b as u32) % 64);
-        }
-        if a < 0xf0 {
-            let v = (a as u32) % 16 * 64 + (b as u32) % 64;
-            if v < 0x20 {
-                return Kind::Bad;
-            }
-            if v < 0x360 {
-                return Kind::More;
-            }
-            if v < 0x380 {
-                return Kind::Bad;
-            }
-            return Kind::More;
-        }
-        let w = (a as u32) % 8 * 64 + (b as u32) % 64;
-        if w < 0x10 {
-            return Kind::Bad;
-        }
-        if w < 0x110 {
-            return Kind::More;
-        }
+    let tail = u32::from(b) % 64;
+    match a {
+        ..=0xdf => Kind::Whole(u32::from(a) % 32 * 64 + tail),
+        0xe0..=0xef => match u32::from(a) % 16 * 64 + tail {
+            0x20..=0x35f | 0x380.. => Kind::More,
+            _ => Kind::Bad,
+        },
+        _ => match u32::from(a) % 8 * 64 + tail {
+            0x10..=0x10f => Kind::More,
+            _ => Kind::Bad,
+        },
     }
-    Kind::Bad
 }
 
 fn third(a: u8, b: u8, c: u8) -> Kind
     ensures { result ≡ next_of (a ∷ b ∷ []) c }
 {
-    if c < 0x80 {
-        return Kind::Bad;
+    if !is_tail(c) {
+        Kind::Bad
+    } else if a < 0xf0 {
+        whole(u32::from(a) % 16 * 4096 + u32::from(b) % 64 * 64 + u32::from(c) % 64)
+    } else {
+        Kind::More
     }
-    if c < 0xc0 {
-        if a < 0xf0 {
-            return whole((a as u32) % 16 * 4096 + (b as u32) % 64 * 64 + (c as u32) % 64);
-        }
-        return Kind::More;
-    }
-    Kind::Bad
 }
 
 fn fourth(a: u8, b: u8, c: u8, d: u8) -> Kind
     ensures { result ≡ next_of (a ∷ b ∷ c ∷ []) d }
 {
-    if d < 0x80 {
+    if !is_tail(d) {
         return Kind::Bad;
     }
-    if d < 0xc0 {
-        return whole(
-            (a as u32) % 8 * 262144
-                + (b as u32) % 64 * 4096
-                + (c as u32) % 64 * 64
-                + (d as u32) % 64,
-        );
-    }
-    Kind::Bad
+    whole(
+        u32::from(a) % 8 * 262144
+            + u32::from(b) % 64 * 4096
+            + u32::from(c) % 64 * 64
+            + u32::from(d) % 64,
+    )
 }
 
 // The byte where nothing is pending, behind U+FFFD for the n bytes that were. Inner: it asks for three at most.
@@ -228,7 +210,7 @@ impl Pending {
             Pending::Nothing => Pending::One(b),
             Pending::One(x) => Pending::Two(x, b),
             Pending::Two(x, y) => Pending::Three(x, y, b),
-            Pending::Three(x, y, _) => Pending::Three(x, y, b),
+            Pending::Three(_, _, _) => unreachable!(),
         }
     }
 
@@ -237,15 +219,14 @@ impl Pending {
         requires { next_of (pending_of self) b ≡ Kind.Bad }
         ensures { turn_in result ≡ step_of (pending_of self) b }
     {
-        let n = self.len();
-        if n == 0 {
-            return Stepped {
+        match self.len() {
+            0 => Stepped {
                 next: Pending::Nothing,
                 out: Out::One(REPL),
                 replaced: 1,
-            };
+            },
+            n => again(b, n),
         }
-        again(b, n)
     }
 
     // Takes one byte, and answers what it comes to. Total.
@@ -273,9 +254,7 @@ impl Pending {
     {
         match self {
             Pending::Nothing => Out::Nothing,
-            Pending::One(_) => Out::One(REPL),
-            Pending::Two(_, _) => Out::One(REPL),
-            Pending::Three(_, _, _) => Out::One(REPL),
+            _ => Out::One(REPL),
         }
     }
 
@@ -284,28 +263,24 @@ impl Pending {
     pub fn decode(self, bytes: &[u8], out: &mut [u32]) -> Decoded
         ensures { outcome result out.new ≡ decode_of (pending_of self) bytes.now out.old }
     {
-        if (0 < bytes.len()) & (out.len() <= bytes.len()) {
+        if !bytes.is_empty() && out.len() <= bytes.len() {
             return Decoded {
                 answer: Counted::Refused(NO_ROOM),
                 next: self,
             };
         }
-        let mut s = self;
-        let mut i = 0;
-        let mut k = 0;
+        let mut pending = self;
+        let mut written = 0;
         let mut replaced = 0;
-        while i < bytes.len() {
-            let t = s.step(bytes[i]);
-            let o = t.out;
-            k = put(o, out, k);
-            replaced = replaced + t.replaced;
-            let next = t.next;
-            s = next;
-            i += 1;
+        for &b in bytes {
+            let stepped = pending.step(b);
+            written = put(stepped.out, out, written);
+            replaced += stepped.replaced;
+            pending = stepped.next;
         }
         Decoded {
-            answer: Counted::Counts(k, replaced),
-            next: s,
+            answer: Counted::Counts(written, replaced),
+            next: pending,
         }
     }
 }
