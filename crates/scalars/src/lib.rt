@@ -79,11 +79,5 @@ pub fn is_char(c: u32) -> bool
 pub fn are_chars(chars: &[u32]) -> bool
     ensures { result ≡ are_chars chars.now }
 {
-    let mut good = true;
-    let mut i = 0;
-    while i < chars.len() {
-        good = good & is_char(chars[i]);
-        i += 1;
-    }
-    good
+    chars.iter().fold(true, |good, &c| good & is_char(c))
 }
