@@ -69,6 +69,7 @@ pub const LS: u32 = 0x2028;
 pub const PS: u32 = 0x2029;
 
 // Whether the number c is a character, which refusal 1 asks. Total.
+#[tactic(auto, unfolding(crate::specs::Chars::is_char))]
 pub fn is_char(c: u32) -> bool
     ensures { result ≡ is_char c }
 {

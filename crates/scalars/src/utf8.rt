@@ -7,7 +7,7 @@ ghost use Rattle.scalars.specs.Utf8.{encode_of, utf8_step_of, chars_of, counts_o
 ghost use Rattle.scalars.specs.Inner.{more_of, kept_of, two_of, three_of, four_of, Ascii, AsciiTo, AsciiIn};
 
 use super::is_char;
-use common::{NO_ROOM, NOT_A_CHAR, lesser};
+use common::{NO_ROOM, NOT_A_CHAR};
 
 // What stands at a place: a character with the place after it, or none. "The UTF-8 step answers an enum"
 #[derive(Clone, Copy)]
@@ -23,12 +23,6 @@ enum Bits {
     Broken,
 }
 
-fn wide(b: u8) -> u32
-    ensures { result ≡ b }
-{
-    b as u32
-}
-
 // The bits with the six of the continuation byte at i behind them.
 fn more(bytes: &[u8], i: usize, bits: u32) -> Bits
     requires { bits < 0x8000 }
@@ -37,7 +31,7 @@ fn more(bytes: &[u8], i: usize, bits: u32) -> Bits
     if bytes.len() <= i {
         return Bits::Broken;
     }
-    let b = wide(bytes[i]);
+    let b = u32::from(bytes[i]);
     if (0x80 <= b) & (b <= 0xbf) {
         Bits::Read(bits * 64 + (b - 0x80))
     } else {
@@ -104,7 +98,7 @@ pub fn utf8_step(bytes: &[u8], at: usize) -> Utf8Step
     if bytes.len() <= at {
         return Utf8Step::Stop;
     }
-    let b = wide(bytes[at]);
+    let b = u32::from(bytes[at]);
     if b < 0x80 {
         return Utf8Step::Char(b, at + 1);
     }
@@ -130,18 +124,11 @@ pub struct Prefix {
     pub bytes: usize,
 }
 
-// Whether so many bytes from a place on are below 80. The loop has no early exit, so that it can be vectorised.
-fn ascii_block(bytes: &[u8], at: usize, size: usize) -> bool
-    requires { at + size ≤ length bytes.now }
-    ensures { result ≡ true → Ascii bytes.now at (at + size) }
+// Whether all bytes of a block are below 80. The fold has no early exit, so that it can be vectorised.
+fn ascii_block(block: &[u8]) -> bool
+    ensures { result ≡ true → Ascii block.now 0 (length block.now) }
 {
-    let mut good = true;
-    let mut tested = 0;
-    while tested < size {
-        good = good & (bytes[at + tested] < 0x80);
-        tested += 1;
-    }
-    good
+    block.iter().fold(true, |good, &b| good & (b < 0x80))
 }
 
 // A place up to which all bytes from `from` on are below 80, and not past `stop`: by blocks of one size.
@@ -150,14 +137,8 @@ fn ascii_blocks(bytes: &[u8], from: usize, stop: usize, size: usize) -> usize
     requires size_nonzero { 0 < size }
     ensures { AsciiTo bytes.now from stop result }
 {
-    let mut i = from;
-    while size <= stop - i {
-        if !ascii_block(bytes, i, size) {
-            return i;
-        }
-        i += size;
-    }
-    i
+    let blocks = bytes[from..stop].chunks_exact(size);
+    from + size * blocks.take_while(|block| ascii_block(block)).count()
 }
 
 // The same by blocks of 64, of 16, and one by one. Each size is a number here, by which the loop of `ascii_block` is unrolled.
@@ -195,13 +176,11 @@ fn decode_ascii(bytes: &[u8], from: usize, out: &mut [u32], at: usize) -> usize
     requires { (from ≤ length bytes.now) × (at ≤ length out.old) }
     ensures { AsciiIn bytes.now from out.old at result out.new }
 {
-    let stop = from + lesser(bytes.len() - from, out.len() - at);
+    let stop = from + (bytes.len() - from).min(out.len() - at);
     let end = ascii_end(bytes, from, stop);
     let run = &bytes[from..end];
-    let mut j = 0;
-    while j < run.len() {
-        out[at + j] = wide(run[j]);
-        j += 1;
+    for (j, &b) in run.iter().enumerate() {
+        out[at + j] = u32::from(b);
     }
     end
 }
@@ -237,6 +216,7 @@ pub enum Encoded {
 }
 
 // How many bytes encode c.
+#[tactic(auto, unfolding(crate::specs::Utf8::encode_of))]
 fn len_utf8(c: u32) -> usize
     ensures { result ≡ length (encode_of c) }
 {

@@ -9,27 +9,27 @@ returns : tie.Need-returns-then-bytes-at
 returns c = past_step _ _ c.if-bytes-at.true
 
 returns-2 : tie.Need-returns-then-b-lt128
-returns-2 c = rw (← lead_step _ _ _ c.if-bytes-at.false c.wide-b.ensures) (search tests)
+returns-2 c = rw (← lead_step _ _ _ c.if-bytes-at.false c.from-b.ensures) (search tests)
 
 returns-3 : tie.Need-returns-then-b-lt192
 returns-3 c =
-    rw (← lead_step _ _ _ c.if-bytes-at.false c.wide-b.ensures) (search tests)
+    rw (← lead_step _ _ _ c.if-bytes-at.false c.from-b.ensures) (search tests)
 
 returns-4 : tie.Need-returns-then-b-lt224
 returns-4 c =
-    rw (← lead_step _ _ _ c.if-bytes-at.false c.wide-b.ensures) (search tests depth 10)
+    rw (← lead_step _ _ _ c.if-bytes-at.false c.from-b.ensures) (search tests depth 10)
 
 returns-5 : tie.Need-returns-then-b-lt240
 returns-5 c =
-    rw (← lead_step _ _ _ c.if-bytes-at.false c.wide-b.ensures) (search tests depth 10)
+    rw (← lead_step _ _ _ c.if-bytes-at.false c.from-b.ensures) (search tests depth 10)
 
 returns-6 : tie.Need-returns-then-b-lt248
 returns-6 c =
-    rw (← lead_step _ _ _ c.if-bytes-at.false c.wide-b.ensures) (search tests depth 10)
+    rw (← lead_step _ _ _ c.if-bytes-at.false c.from-b.ensures) (search tests depth 10)
 
 returns-7 : tie.Need-returns
 returns-7 c =
-    rw (← lead_step _ _ _ c.if-bytes-at.false c.wide-b.ensures) (search tests depth 10)
+    rw (← lead_step _ _ _ c.if-bytes-at.false c.from-b.ensures) (search tests depth 10)
 
 pub utf8_step_spec : {M : Type 1} → statement M
 utf8_step_spec =
