@@ -5,5 +5,7 @@ pub mod Lists
 pub mod Storing
 pub mod Places
 pub mod Tested
+pub mod Flags
+pub mod Blocks
 pub mod Answers
 pub mod Order

@@ -67,6 +67,7 @@ pub const LS: u32 = 0x2028;
 pub const PS: u32 = 0x2029;
 
 // Whether the number c is a character, which refusal 1 asks. Total.
+#[tactic(auto, unfolding(crate::specs::Chars::is_char))]
 pub fn is_char(c: u32) -> bool
     ensures { result ≡ is_char c }
 {
@@ -77,11 +78,5 @@ pub fn is_char(c: u32) -> bool
 pub fn are_chars(chars: &[u32]) -> bool
     ensures { result ≡ are_chars chars.now }
 {
-    let mut good = true;
-    let mut i = 0;
-    while i < chars.len() {
-        good = good & is_char(chars[i]);
-        i += 1;
-    }
-    good
+    chars.iter().fold(true, |good, &c| good & is_char(c))
 }

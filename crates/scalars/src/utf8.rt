@@ -8,13 +8,7 @@ ghost use Rattle.scalars.specs.Utf8.{encode_of, utf8_step_of, chars_of, counts_o
 ghost use Rattle.scalars.specs.Inner.{more_of, kept_of, two_of, three_of, four_of, Ascii, AsciiTo, AsciiIn};
 
 use super::is_char;
-use common::{Refusal, lesser};
-
-fn wide(b: u8) -> u32
-    ensures { result ≡ b }
-{
-    b as u32
-}
+use common::Refusal;
 
 // The bits with the six of the continuation byte at i behind them; none where that byte does not go on with the encoding.
 fn more(bytes: &[u8], i: usize, bits: u32) -> Option<u32>
@@ -24,7 +18,7 @@ fn more(bytes: &[u8], i: usize, bits: u32) -> Option<u32>
     if bytes.len() <= i {
         return None;
     }
-    let b = wide(bytes[i]);
+    let b = u32::from(bytes[i]);
     if (0x80 <= b) & (b <= 0xbf) {
         Some(bits * 64 + (b - 0x80))
     } else {
@@ -77,7 +71,7 @@ pub fn utf8_step(bytes: &[u8], at: usize) -> Option<(u32, usize)>
     if bytes.len() <= at {
         return None;
     }
-    let b = wide(bytes[at]);
+    let b = u32::from(bytes[at]);
     if b < 0x80 {
         return Some((b, at + 1));
     }
@@ -103,18 +97,11 @@ pub struct Prefix {
     pub bytes: usize,
 }
 
-// Whether so many bytes from a place on are below 80. The loop has no early exit, so that it can be vectorised.
-fn ascii_block(bytes: &[u8], at: usize, size: usize) -> bool
-    requires { at + size ≤ length bytes.now }
-    ensures { result ≡ true → Ascii bytes.now at (at + size) }
+// Whether all bytes of a block are below 80. The fold has no early exit, so that it can be vectorised.
+fn ascii_block(block: &[u8]) -> bool
+    ensures { result ≡ true → Ascii block.now 0 (length block.now) }
 {
-    let mut good = true;
-    let mut tested = 0;
-    while tested < size {
-        good = good & (bytes[at + tested] < 0x80);
-        tested += 1;
-    }
-    good
+    block.iter().fold(true, |good, &b| good & (b < 0x80))
 }
 
 // A place up to which all bytes from `from` on are below 80, and not past `stop`: by blocks of one size.
@@ -123,14 +110,8 @@ fn ascii_blocks(bytes: &[u8], from: usize, stop: usize, size: usize) -> usize
     requires size_nonzero { 0 < size }
     ensures { AsciiTo bytes.now from stop result }
 {
-    let mut i = from;
-    while size <= stop - i {
-        if !ascii_block(bytes, i, size) {
-            return i;
-        }
-        i += size;
-    }
-    i
+    let blocks = bytes[from..stop].chunks_exact(size);
+    from + size * blocks.take_while(|block| ascii_block(block)).count()
 }
 
 // The same by blocks of 64, of 16, and one by one. Each size is a number here, by which the loop of `ascii_block` is unrolled.
@@ -168,13 +149,11 @@ fn decode_ascii(bytes: &[u8], from: usize, out: &mut [u32], at: usize) -> usize
     requires { (from ≤ length bytes.now) × (at ≤ length out.old) }
     ensures { AsciiIn bytes.now from out.old at result out.new }
 {
-    let stop = from + lesser(bytes.len() - from, out.len() - at);
+    let stop = from + (bytes.len() - from).min(out.len() - at);
     let end = ascii_end(bytes, from, stop);
     let run = &bytes[from..end];
-    let mut j = 0;
-    while j < run.len() {
-        out[at + j] = wide(run[j]);
-        j += 1;
+    for (j, &b) in run.iter().enumerate() {
+        out[at + j] = u32::from(b);
     }
     end
 }
@@ -203,6 +182,7 @@ pub fn decode_utf8(bytes: &[u8], out: &mut [u32]) -> Prefix
 }
 
 // How many bytes encode c.
+#[tactic(auto, unfolding(crate::specs::Utf8::encode_of))]
 fn len_utf8(c: u32) -> usize
     ensures { result ≡ length (encode_of c) }
 {

@@ -24,16 +24,16 @@ sub-t13 c = leb-true _ _ (both_true _ _ c.if-b.true).0
 
 add-t14 : tie.Need-overflow_add-result
 add-t14 c =
-    let b = c.wide-b.result in
+    let b = c.from-b.result in
     omega (arith, leb-true b 0xBF (both_true (leb 0x80 b) (leb b 0xBF) c.if-b.true).1)
 
 returns-2 : tie.Need-returns-then-b
 unfolding more_of continuation
-returns-2 c = rw (← c.wide-b.ensures) (simp c.if-b.true)
+returns-2 c = rw (← c.from-b.ensures) (simp c.if-b.true)
 
 returns-3 : tie.Need-returns-else-b
 unfolding more_of continuation
-returns-3 c = rw (← c.wide-b.ensures) (simp c.if-b.false)
+returns-3 c = rw (← c.from-b.ensures) (simp c.if-b.false)
 
 pub more_spec : {M : Type 1} → statement M
 more_spec =
