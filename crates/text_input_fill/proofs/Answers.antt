@@ -4,16 +4,19 @@ use Prim.Native.Nat.{ℕ}
 use mathlib.Core.List.{List, [], ◌∷◌}
 use mathlib.Core.Path.{◌≡◌, refl}
 use Rattle.text_input_fill.specs.declared.Filled.{Filled}
-use Rattle.text_input_fill.specs.declared.Filled.TheVariants.{Counts, Refused}
+use Rattle.std.specs.Prelude.{Result, Ok, Err}
+use Rattle.common.specs.declared.Refusal.{Refusal}
+use Rattle.common.specs.declared.Refusal.TheVariants.{NotAChar}
+use Rattle.common.proofs.Answers.{refusal_by, refusal_back}
 use Rattle.text_input_fill.specs.Fill.{filled_numbers}
 
 -- the answer of these numbers
-abbrev pub fill_answer_of : List ℕ → Filled
-fill_answer_of [] = Refused 0
-fill_answer_of (n ∷ []) = Refused n
-fill_answer_of (n ∷ k ∷ []) = Refused n
-fill_answer_of (n ∷ t ∷ k ∷ ns) = Counts t k
+abbrev pub fill_answer_of : List ℕ → Result Filled Refusal
+fill_answer_of [] = Err NotAChar
+fill_answer_of (n ∷ []) = Err (refusal_by n)
+fill_answer_of (n ∷ k ∷ []) = Err (refusal_by n)
+fill_answer_of (n ∷ t ∷ k ∷ ns) = Ok (record { taken = t; bytes = k })
 
-pub filled_back : (a : Filled) → fill_answer_of (filled_numbers a) ≡ a
-filled_back (Counts t k) = refl
-filled_back (Refused n) = refl
+pub filled_back : (a : Result Filled Refusal) → fill_answer_of (filled_numbers a) ≡ a
+filled_back (Ok filled) = refl
+filled_back (Err e) = rw (refusal_back e)

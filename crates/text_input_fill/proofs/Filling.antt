@@ -16,7 +16,7 @@ use Rattle.scalars.specs.Chars.{is_char, are_chars}
 use Rattle.scalars.specs.Utf8.{encode_of, encode_all}
 use Rattle.common.proofs.Kit.{by_lt, both_true}
 use Rattle.scalars.proofs.Rows.{length_encode}
-use Rattle.text_input_fill.specs.declared.Filled.TheVariants.{Counts}
+use Rattle.std.specs.Prelude.{Ok}
 use Rattle.text_input_fill.specs.Fill.{taken_chars, zeroed, fill_outcome, filled_bytes, fill_of}
 use Rattle.common.proofs.Lists.{sets_append, sets_first}
 
@@ -86,7 +86,7 @@ module _ (queue buf₀ : List ℕ) where
 
   -- ---- both
   pub filled_is : (t k : ℕ) (b₁ b₂ : List ℕ) → 136 ≤ length buf₀ → are_chars queue ≡ true → Encoded t k b₁
-      → b₂ ≡ take k b₁ ++ zeroed (drop k b₁) → fill_outcome (Counts t k) b₂ ≡ fill_of queue buf₀
+      → b₂ ≡ take k b₁ ++ zeroed (drop k b₁) → fill_outcome (Ok (record { taken = t; bytes = k })) b₂ ≡ fill_of queue buf₀
   unfolding fill_of
   filled_is t k b₁ b₂ room s e q =
       let f : b₁ ≡ filled_bytes queue buf₀ ++ drop (length (filled_bytes queue buf₀)) buf₀ =

@@ -1,11 +1,12 @@
 -- Filling bytes: "queue characters are encoded while at least 4 bytes are free; then continuation bytes (80..BF) from there on are
 -- zeroed up to the first other byte. The characters taken and the bytes filled are both returned. Order: 7, 1."
 -- Document 01, "A stream finishes" and "Refused ..".
-use Rattle.std.specs.Prelude.{ℕ, ◌-◌, cond, List, [], ◌∷◌, ◌++◌, ltb, length, drop}
+use Rattle.std.specs.Prelude.{ℕ, ◌-◌, cond, List, [], ◌∷◌, ◌++◌, ltb, length, drop, Result, Ok, Err}
+use Rattle.common.specs.declared.Refusal.{Refusal}
+use Rattle.common.specs.Answers.{refusal_number}
 use Rattle.scalars.specs.Chars.{are_chars}
 use Rattle.scalars.specs.Utf8.{encode_of, continuation, encode_all}
 use Rattle.text_input_fill.specs.declared.Filled.{Filled}
-use Rattle.text_input_fill.specs.declared.Filled.TheVariants.{Counts, Refused}
 
 -- the characters that are encoded, with so many bytes free
 -- "Filling bytes: queue characters are encoded while at least 4 bytes are free"
@@ -20,9 +21,9 @@ zeroed (b ∷ bs) = cond (continuation b) (0 ∷ zeroed bs) (b ∷ bs)
 
 -- an answer by document 01's numbers: 0, the characters taken and the bytes filled; or the refusal's number
 -- "The characters taken and the bytes filled are both returned."
-abbrev pub filled_numbers : Filled → List ℕ
-filled_numbers (Counts chars bytes) = 0 ∷ chars ∷ bytes ∷ []
-filled_numbers (Refused n) = n ∷ []
+abbrev pub filled_numbers : Result Filled Refusal → List ℕ
+filled_numbers (Ok filled) = 0 ∷ filled.taken ∷ filled.bytes ∷ []
+filled_numbers (Err e) = refusal_number e ∷ []
 
 -- the answer's numbers, and the bytes as the call returns
 pub record FillOutcome : Type 0 where
@@ -30,7 +31,7 @@ pub record FillOutcome : Type 0 where
   pub bytes : List ℕ
 
 -- what a call returned and left
-abbrev pub fill_outcome : Filled → List ℕ → FillOutcome
+abbrev pub fill_outcome : Result Filled Refusal → List ℕ → FillOutcome
 fill_outcome r bytes = record { numbers = filled_numbers r; bytes = bytes }
 
 -- refused by a number: the bytes as they were

@@ -8,14 +8,14 @@ ghost use Rattle.scalars.specs.Chars.{are_chars};
 ghost use Rattle.scalars.specs.Utf8.{continuation, encode_all};
 ghost use Rattle.text_input_fill.specs.Fill.{taken_chars, zeroed, fill_outcome, fill_of};
 
-use common::{NOT_A_CHAR, SMALL_BUFFER};
+use common::Refusal;
 use scalars::{MAX_UTF8_SIZE, NORMALIZATION_BUFFER_SIZE, are_chars, write_utf8};
 
-// The characters taken from the queue and the bytes filled, or the number of a refusal.
-#[derive(Clone, Copy)]
-pub enum Filled {
-    Counts(usize, usize),
-    Refused(u32),
+// The characters taken from the queue, and the bytes filled.
+#[derive(Clone, Copy, Debug, PartialEq, Eq)]
+pub struct Filled {
+    pub taken: usize,
+    pub bytes: usize,
 }
 
 // 80..BF: where `is_char_boundary` says no.
@@ -40,14 +40,8 @@ fn clear_to_char_boundary(buf: &mut [u8], at: usize)
     }
 }
 
-#[derive(Clone, Copy)]
-struct Encoded {
-    taken: usize,
-    bytes: usize,
-}
-
 // Encodes characters of the queue while at least four bytes are free. Inner: asks for characters.
-fn encode_queue(queue: &[u32], buf: &mut [u8]) -> Encoded
+fn encode_queue(queue: &[u32], buf: &mut [u8]) -> Filled
     requires { are_chars queue.now ≡ true }
     ensures taken { result.taken ≡ length (taken_chars (length buf.old) queue.now) }
     ensures filled { result.bytes ≡ length (encode_all (taken_chars (length buf.old) queue.now)) }
@@ -56,11 +50,11 @@ fn encode_queue(queue: &[u32], buf: &mut [u8]) -> Encoded
     let mut bytes = 0;
     for (taken, &c) in queue.iter().enumerate() {
         if buf.len() - bytes < MAX_UTF8_SIZE {
-            return Encoded { taken, bytes };
+            return Filled { taken, bytes };
         }
         bytes = write_utf8(c, buf, bytes);
     }
-    Encoded {
+    Filled {
         taken: queue.len(),
         bytes,
     }
@@ -69,18 +63,16 @@ fn encode_queue(queue: &[u32], buf: &mut [u8]) -> Encoded
 // Encodes the queue's first characters into the buffer, and answers how many were taken and how many bytes they fill. Total:
 // refuses 7, then 1, and then leaves every byte.
 #[tactic(auto, using(crate::proofs::Filling::fits), unfolding(crate::specs::Fill::fill_of))]
-pub fn fill(queue: &[u32], buf: &mut [u8]) -> Filled
+pub fn fill(queue: &[u32], buf: &mut [u8]) -> Result<Filled, Refusal>
     ensures { fill_outcome result buf.new ≡ fill_of queue.now buf.old }
 {
     if buf.len() < NORMALIZATION_BUFFER_SIZE {
-        return Filled::Refused(SMALL_BUFFER);
+        return Err(Refusal::SmallBuffer);
     }
-    if are_chars(queue) {
-        let encoded = encode_queue(queue, buf);
-        let bytes = encoded.bytes;
-        clear_to_char_boundary(buf, bytes);
-        Filled::Counts(encoded.taken, bytes)
-    } else {
-        Filled::Refused(NOT_A_CHAR)
+    if !are_chars(queue) {
+        return Err(Refusal::NotAChar);
     }
+    let filled = encode_queue(queue, buf);
+    clear_to_char_boundary(buf, filled.bytes);
+    Ok(filled)
 }
