@@ -1,9 +1,11 @@
 -- An answer read back from its numbers: no two answers list alike.
 --     refusal_back    for every refusal, that of its number is it
+--     refusal_some    and no refusal has the number 0
 --     written_back    for every answer, those of its numbers are it
 use Prim.Native.Nat.{ℕ}
 use mathlib.Core.Path.{◌≡◌, refl}
 use mathlib.Core.List.{List, [], ◌∷◌}
+use native.Mathlib.Omega.{arith}
 use Rattle.std.specs.Prelude.{Result, Ok, Err, cond, eqb}
 use Rattle.common.specs.declared.Refusal.{Refusal}
 use Rattle.common.specs.declared.Refusal.TheVariants.{NotAChar, WrongPage, NotUtf8, Unwritable, NoStart, EscapeFull, SmallBuffer, NoRoom, UnsoundWriter, CountLimit, AfterNonEnd, AfterNoNewline, InEscape, OddBytes, UnpairedSurrogate}
@@ -43,3 +45,21 @@ answer_of (n ∷ k ∷ ns) = Ok k
 pub written_back : (a : Result ℕ Refusal) → answer_of (written_numbers a) ≡ a
 written_back (Ok k) = refl
 written_back (Err e) = rw (refusal_back e)
+
+-- no refusal has the number 0
+pub refusal_some : (e : Refusal) → refusal_number e ≡ 0 → ⊥
+refusal_some NotAChar h = omega arith
+refusal_some WrongPage h = omega arith
+refusal_some NotUtf8 h = omega arith
+refusal_some Unwritable h = omega arith
+refusal_some NoStart h = omega arith
+refusal_some EscapeFull h = omega arith
+refusal_some SmallBuffer h = omega arith
+refusal_some NoRoom h = omega arith
+refusal_some UnsoundWriter h = omega arith
+refusal_some CountLimit h = omega arith
+refusal_some AfterNonEnd h = omega arith
+refusal_some AfterNoNewline h = omega arith
+refusal_some InEscape h = omega arith
+refusal_some OddBytes h = omega arith
+refusal_some UnpairedSurrogate h = omega arith

@@ -19,8 +19,6 @@ use Rattle.text_input.specs.declared.step.Left.{Left}
 use Rattle.text_input.specs.declared.step.Left.TheVariants.{Part, Newline, Goes, Ends, After, Dropped}
 use Rattle.text_input.specs.declared.step.Met.{Met}
 use Rattle.text_input.specs.declared.step.Met.TheVariants.{Line, Opens, Other}
-use Rattle.text_input_parts.specs.declared.queue.Lead.{Lead}
-use Rattle.text_input_parts.specs.declared.queue.Lead.TheVariants.{Nothing, Char}
 use Rattle.text_input_parts.specs.Sets.{newline_char}
 use Rattle.text_input_parts.specs.PieceSets.{parameter_char, final_char, string_last, low_char, cr_or_lf}
 use Rattle.text_input_parts.proofs.PieceSets.{parameter_is, final_is, string_end_is, up_to_is}
@@ -32,6 +30,7 @@ use Rattle.text_input.proofs.Cut.{Inner, cr, ff, esc, csiStart, csi, osc, linux,
 use Rattle.text_input.proofs.Unique.{Class, opens, single, class, kind_c, tail_of, longest_of, first_unique, no_piece}
 use Rattle.text_clean.specs.Text.{escaping, goes_on, in_escape}
 use Rattle.text_clean.specs.Promise.{is_escape}
+use Rattle.std.specs.Prelude.{Option, Some, None}
 
 -- ---- small laws
 or-true : (b : Bool) → b || true ≡ true
@@ -71,7 +70,7 @@ module _ (o : Options) where
   abbrev pub next_state : State → ℕ → State
   next_state s c = left_state c (leave_of s c)
 
-  met_state_lem : (p : List ℕ) (r : TextInput) (c : ℕ) (lead : Lead) (e : Bool) (m : Met) → (met_of p o r c lead e m).next.state ≡ met_state m
+  met_state_lem : (p : List ℕ) (r : TextInput) (c : ℕ) (lead : Option ℕ) (e : Bool) (m : Met) → (met_of p o r c lead e m).next.state ≡ met_state m
   met_state_lem p r c lead e Line = refl
   met_state_lem p r c lead e (Opens s) = refl
   met_state_lem p r c lead e Other = refl
@@ -79,10 +78,10 @@ module _ (o : Options) where
   left_state_lem : (p : List ℕ) (r : TextInput) (c : ℕ) (l : Left) → (left_of p o r c l).next.state ≡ left_state c l
   left_state_lem p r c (Part s) = refl
   left_state_lem p r c Newline = refl
-  left_state_lem p r c Goes = met_state_lem p r c Nothing r.expect_starter (meet_of o c)
-  left_state_lem p r c Ends = met_state_lem p r c Nothing r.expect_starter (meet_of o c)
-  left_state_lem p r c (After a) = met_state_lem p r c (Char a) false (meet_of o c)
-  left_state_lem p r c Dropped = met_state_lem p r c Nothing false (meet_of o c)
+  left_state_lem p r c Goes = met_state_lem p r c None r.expect_starter (meet_of o c)
+  left_state_lem p r c Ends = met_state_lem p r c None r.expect_starter (meet_of o c)
+  left_state_lem p r c (After a) = met_state_lem p r c (Some a) false (meet_of o c)
+  left_state_lem p r c Dropped = met_state_lem p r c None false (meet_of o c)
 
   pub step_state : (p : List ℕ) (r : TextInput) (c : ℕ) → (scan_step_of p o r c).next.state ≡ next_state r.state c
   unfolding scan_step_of

@@ -23,8 +23,6 @@ use Rattle.replace.specs.Table.{in_spans}
 use Rattle.stretch.specs.Plain.{special, Plain}
 use Rattle.text_utils.specs.Classes.{starter, basic_text_start}
 use Rattle.text_utils.proofs.Classes.{start_low, end_newline}
-use Rattle.text_input_parts.specs.declared.queue.Lead.TheVariants.{Nothing}
-use Rattle.text_input_parts.specs.declared.queue.Image.TheVariants.{Empty, Chars}
 use Rattle.text_input_parts.specs.Appended.{last_of, guard_of}
 use Rattle.text_input.specs.declared.State.{State}
 use Rattle.text_input.specs.declared.State.TheVariants.{Ground, Cr, Ff, Esc, CsiStart, Csi, Osc, Linux}
@@ -39,6 +37,7 @@ use Rattle.text_clean.specs.declared.text.Text.{Text}
 use Rattle.text_clean.specs.Text.{begun, in_escape, Passed, take_of, joined, passed_of}
 use Rattle.text_clean.specs.Inner.{ready_for, passed_text, ended_text}
 use Rattle.text_clean.proofs.Append.{passed_one}
+use Rattle.std.specs.Prelude.{None, Some}
 
 -- ---- the ground state
 leave_ground : (s : State) (c : ℕ) → grounded s ≡ true → leave_of s c ≡ Goes
@@ -85,7 +84,7 @@ pub record Ready (t : Text) (c : ℕ) : Type 0 where
   pub cr : t.cr ≡ false
   pub start : (c < 0x80) ⊎ ((t.input.expect_starter ≡ false) × (t.input.at_start ≡ false))
 
-no_guard : (p : List ℕ) (expect start : Bool) (c : ℕ) → (c < 0x80) ⊎ ((expect ≡ false) × (start ≡ false)) → guard_of p Nothing expect (One c) ≡ Nothing
+no_guard : (p : List ℕ) (expect start : Bool) (c : ℕ) → (c < 0x80) ⊎ ((expect ≡ false) × (start ≡ false)) → guard_of p None expect (One c) ≡ None
 no_guard p false start c h = refl
 no_guard p true start c (inl h) = rw (start_ascii p c h)
 no_guard p true start c (inr h) = never (sym h.0)
@@ -101,7 +100,7 @@ plainly t cs l = record { out = cs; next = passed_text t l; dropped = 0; lost = 
 
 module _ (p : List ℕ) (o : Options) (lines : Bool) where
   plain_step : (t : Text) (c : ℕ) → Ready t c → Plain c →
-      scan_step_of p o (begun t.input) c ≡ record { lead = Nothing; image = Chars (One c); next = (passed_text t c).input }
+      scan_step_of p o (begun t.input) c ≡ record { lead = None; image = Some (One c); next = (passed_text t c).input }
   unfolding scan_step_of
   plain_step t c r k =
       simp (leave_ground t.input.state c r.ground, meet_other c k.other o, k.same o.units_compatibility, no_guard p t.input.expect_starter t.input.at_start c r.start)
@@ -198,7 +197,7 @@ after_newline r =
 
 module _ (p : List ℕ) (o : Options) where
   line_step : (s : State) (r : TextInput) → at_line s ≡ true → r.state ≡ s →
-      scan_step_of p o r 0x0A ≡ record { lead = Nothing; image = Chars (One 0x0A); next = after_newline r }
+      scan_step_of p o r 0x0A ≡ record { lead = None; image = Some (One 0x0A); next = after_newline r }
   unfolding scan_step_of leave_of meet_of
   line_step (Ground b) r h e = rw e
   line_step Cr r h e = rw e
@@ -226,8 +225,8 @@ module _ (p : List ℕ) (o : Options) where
 
   return_step : (s : State) (r : TextInput) → grounded s ≡ true → r.state ≡ s →
       scan_step_of p o r 0x0D ≡ record {
-        lead = Nothing;
-        image = Empty;
+        lead = None;
+        image = None;
         next = record { state = Cr; expect_starter = r.expect_starter; at_start = r.at_start; last = r.last; count = r.count };
       }
   unfolding scan_step_of meet_of

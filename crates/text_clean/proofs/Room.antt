@@ -38,9 +38,6 @@ use Rattle.text_input.specs.declared.State.{State}
 use Rattle.text_input.specs.declared.State.TheVariants.{Ground, Cr, Ff, Esc, CsiStart, Csi, Osc, Linux}
 use Rattle.text_input.specs.declared.Options.{Options}
 use Rattle.text_input.specs.declared.TextInput.{TextInput}
-use Rattle.text_input_parts.specs.declared.queue.Lead.{Lead}
-use Rattle.text_input_parts.specs.declared.queue.Lead.TheVariants.{Nothing, Char}
-use Rattle.text_input_parts.specs.declared.queue.Image.TheVariants.{Chars}
 use Rattle.text_input.specs.declared.step.Left.{Left}
 use Rattle.text_input.specs.declared.step.Left.TheVariants.{Part, Newline, Goes, Ends, After, Dropped}
 use Rattle.text_input.specs.declared.step.Met.{Met}
@@ -61,6 +58,7 @@ use Rattle.text_clean.specs.Text.{bit, begun, escaping, in_escape, lost_before, 
 use Rattle.text_clean.specs.Clean.{places_for_bytes}
 use Rattle.text_clean.specs.Clean as call
 use Rattle.text_clean.specs.Inner.{no_tally, Fits, course_of, gives, leads}
+use Rattle.std.specs.Prelude.{Option, Some, None}
 
 -- ---- one character is a leading mark, a line end that ends its text, or goes by the scanner's step
 pub by_take : (P : Passed → Type 0) (p : List ℕ) (o : Options) (lines : Bool) (t : Text) (c : ℕ) →
@@ -206,7 +204,7 @@ unfolding replace_of
 replaced_size units c = rows_size (rows_by units) (One c) c (test units) (own_size c)
 
 -- ---- what a text owes
-abbrev lead_bytes : Lead → ℕ
+abbrev lead_bytes : Option ℕ → ℕ
 lead_bytes l = bytes (lead_chars l)
 
 -- a pending character, which a finish would give
@@ -272,13 +270,13 @@ module _ (n : ℕ) (small : n ≤ 2) where
   cost s = lead_bytes s.lead + bytes (image_chars s.image) + owes n s.next.state s.next.expect_starter
 
   module _ (p : List ℕ) (o : Options) (r : TextInput) (c bound : ℕ) where
-    guard_cost : (lead : Lead) (expect : Bool) (i : Replaced) → lead_bytes lead ≤ bound → guard expect ≤ bound →
+    guard_cost : (lead : Option ℕ) (expect : Bool) (i : Replaced) → lead_bytes lead ≤ bound → guard expect ≤ bound →
         lead_bytes (guard_of p lead expect i) ≤ bound
     unfolding encode_of
-    guard_cost lead true i l b = split (λ (g : Lead). lead_bytes g ≤ bound) (basic_text_start p (first_char i)) (λ e. l) (λ e. b)
+    guard_cost lead true i l b = split (λ (g : Option ℕ). lead_bytes g ≤ bound) (basic_text_start p (first_char i)) (λ e. l) (λ e. b)
     guard_cost lead false i l b = l
 
-    met_cost : (lead : Lead) (expect : Bool) (m : Met) → lead_bytes lead ≤ bound →
+    met_cost : (lead : Option ℕ) (expect : Bool) (m : Met) → lead_bytes lead ≤ bound →
         lead_bytes lead + guard expect ≤ bound + 1 → guard expect ≤ bound →
         cost (met_of p o r c lead expect m) ≤ 3 * size c + bound
     unfolding encode_of
@@ -288,10 +286,10 @@ module _ (n : ℕ) (small : n ≤ 2) where
 
   module _ (p : List ℕ) (o : Options) (r : TextInput) where
     -- the ground state takes c, and nothing was given before it
-    free_cost : (c : ℕ) → cost (ground_of p o r c Nothing r.expect_starter) ≤ 3 * size c + owed n r
+    free_cost : (c : ℕ) → cost (ground_of p o r c None r.expect_starter) ≤ 3 * size c + owed n r
     free_cost c =
         let g = owes_guard n r.state r.expect_starter in
-        met_cost p o r c (owed n r) Nothing r.expect_starter (meet_of o c) (omega arith) (omega arith) g
+        met_cost p o r c (owed n r) None r.expect_starter (meet_of o c) (omega arith) (omega arith) g
 
     left_cost : (c : ℕ) (l : Left) → Given r.state l → cost (left_of p o r c l) ≤ 3 * size c + owed n r
     unfolding encode_of
@@ -301,10 +299,10 @@ module _ (n : ℕ) (small : n ≤ 2) where
     left_cost c Goes h = free_cost c
     left_cost c Ends h = free_cost c
     left_cost c (After a) h =
-        let e : lead_bytes (Char a) ≡ pending r.state = ap lead_bytes (sym h) in
+        let e : lead_bytes (Some a) ≡ pending r.state = ap lead_bytes (sym h) in
         let q = owes_pending n r.state r.expect_starter in
-        met_cost p o r c (owed n r) (Char a) false (meet_of o c) (omega arith) (omega arith) (omega arith)
-    left_cost c Dropped h = met_cost p o r c (owed n r) Nothing false (meet_of o c) (omega arith) (omega arith) (omega arith)
+        met_cost p o r c (owed n r) (Some a) false (meet_of o c) (omega arith) (omega arith) (omega arith)
+    left_cost c Dropped h = met_cost p o r c (owed n r) None false (meet_of o c) (omega arith) (omega arith) (omega arith)
 
     step_cost : (c : ℕ) → cost (scan_step_of p o r c) ≤ 3 * size c + owed n r
     unfolding scan_step_of
@@ -313,7 +311,7 @@ module _ (n : ℕ) (small : n ≤ 2) where
 -- ---- a finish: a pending character is 0A or 20, which are ends, so that no 34F follows it
 mark_two : (last : ℕ) → lead_bytes (end_mark_of last) ≤ 2
 unfolding encode_of
-mark_two last = split (λ (l : Lead). lead_bytes l ≤ 2) (basic_text_end last) (λ e. omega arith) (λ e. omega arith)
+mark_two last = split (λ (l : Option ℕ). lead_bytes l ≤ 2) (basic_text_end last) (λ e. omega arith) (λ e. omega arith)
 
 newline_one : (b : Bool) → lead_bytes (newline_of b) ≤ 1
 unfolding encode_of
@@ -368,7 +366,7 @@ module _ (p : List ℕ) (o : Options) (r : TextInput) where
   abbrev ended : Step → ℕ
   ended s = bytes (out_chars s) + bytes (finish_chars s.next true)
 
-  after_newline : ended (made_of r Nothing (Chars (One 0x0A)) (Ground true) false) ≤ 1
+  after_newline : ended (made_of r None (Some (One 0x0A)) (Ground true) false) ≤ 1
   unfolding encode_of
   after_newline = rw end_newline (omega arith)
 

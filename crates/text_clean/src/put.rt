@@ -9,17 +9,16 @@ ghost use Rattle.text_input_parts.specs.Appended.{lead_chars, image_chars};
 
 use replace::Replaced;
 use scalars::write_utf8;
-use text_input_parts::queue::{Image, Lead};
 
-pub fn put_lead(lead: Lead, out: &mut [u8], at: usize) -> usize
+pub fn put_lead(lead: Option<u32>, out: &mut [u8], at: usize) -> usize
     requires lead_value { are_chars (lead_chars lead) ≡ true }
     requires lead_in_bounds { at + length (encode_all (lead_chars lead)) ≤ length out.old }
     ensures value { result ≡ at + length (encode_all (lead_chars lead)) }
     ensures out_after { out.new ≡ sets out.old at (encode_all (lead_chars lead)) }
 {
     match lead {
-        Lead::Nothing => at,
-        Lead::Char(a) => write_utf8(a, out, at),
+        None => at,
+        Some(a) => write_utf8(a, out, at),
     }
 }
 
@@ -43,14 +42,14 @@ fn put_replaced(image: Replaced, out: &mut [u8], at: usize) -> usize
     }
 }
 
-pub fn put_image(image: Image, out: &mut [u8], at: usize) -> usize
+pub fn put_image(image: Option<Replaced>, out: &mut [u8], at: usize) -> usize
     requires image_value { are_chars (image_chars image) ≡ true }
     requires image_in_bounds { at + length (encode_all (image_chars image)) ≤ length out.old }
     ensures value { result ≡ at + length (encode_all (image_chars image)) }
     ensures out_after { out.new ≡ sets out.old at (encode_all (image_chars image)) }
 {
     match image {
-        Image::Empty => at,
-        Image::Chars(r) => put_replaced(r, out, at),
+        None => at,
+        Some(r) => put_replaced(r, out, at),
     }
 }

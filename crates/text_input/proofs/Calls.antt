@@ -24,7 +24,6 @@ use Rattle.page.specs.Page.{accepted}
 use Rattle.text_input.specs.declared.State.TheVariants.{Ground}
 use Rattle.text_input.specs.declared.Options.{Options}
 use Rattle.text_input.specs.declared.TextInput.{TextInput}
-use Rattle.text_input_parts.specs.declared.queue.Lead.{Lead}
 use Rattle.text_input_parts.specs.Appended.{lead_chars, last_of, end_mark_of, newline_of}
 use Rattle.text_input_parts.specs.Refusals.{max_count, places_for_chunk}
 use Rattle.text_input.specs.Scan.{run_of, scan_refusal, leading_bom, skipped, opened, Outcome, outcome, refused, scan_of, pending_of, after_line, finish_chars, finish_next, finish_of}
@@ -34,7 +33,7 @@ use Rattle.text_input.specs.Inner.{outs, ran_by, ending_chars}
 use Rattle.text_input_parts.proofs.Last.{last_three}
 use Rattle.text_input_parts.proofs.Passed.{ChunkPassed, passed}
 use Rattle.text_input.proofs.Room.{part_room, finish_room}
-use Rattle.std.specs.Prelude.{Ok}
+use Rattle.std.specs.Prelude.{Ok, Option}
 
 -- ---- a scan
 bom_le : (cs : List ℕ) → leading_bom cs ≤ length cs
@@ -95,7 +94,7 @@ module _ (a : Asked) where
         accepted_is ran q h = rw (← a.is, eq-eqb a.no 0 z, h.0, h.1, zero-add, f, g)
 
 -- ---- a finish
-module _ (r : TextInput) (eof : Bool) (lead mark newline : Lead) (last : ℕ) (line : Bool)
+module _ (r : TextInput) (eof : Bool) (lead mark newline : Option ℕ) (last : ℕ) (line : Bool)
     (h₁ : lead ≡ pending_of r.state) (h₂ : last ≡ last_of r.last (lead_chars lead)) (h₃ : mark ≡ end_mark_of last)
     (h₄ : line ≡ after_line r.state) (h₅ : newline ≡ newline_of (eof && not line)) where
   pub ending_chars_lem : lead_chars lead ++ (lead_chars mark ++ lead_chars newline) ≡ finish_chars r eof

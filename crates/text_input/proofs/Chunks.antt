@@ -18,8 +18,6 @@ use native.Mathlib.Nat.{add_assoc}
 use native.Mathlib.Omega.{arith}
 use Rattle.text_input.specs.declared.Options.{Options}
 use Rattle.text_input.specs.declared.TextInput.{TextInput}
-use Rattle.text_input_parts.specs.declared.queue.Lead.{Lead}
-use Rattle.text_input_parts.specs.declared.queue.Lead.TheVariants.{Nothing, Char}
 use Rattle.text_input.specs.declared.step.Left.{Left}
 use Rattle.text_input.specs.declared.step.Left.TheVariants.{Part, Newline, Goes, Ends, After, Dropped}
 use Rattle.text_input.specs.declared.step.Met.{Met}
@@ -30,6 +28,7 @@ use Rattle.text_input.specs.Scan.{Effect, step_effect, joined, run_of, opened, l
 use Rattle.text_input.specs.Inner.{outs, ends}
 use Rattle.text_input.specs.Streams.{scans_chars, scans_next, without_bom}
 use Rattle.text_input.proofs.Meaning.{ends_start}
+use Rattle.std.specs.Prelude.{Option, Some, None}
 
 -- ---- a run over joined texts
 joined_assoc : (a b c : Effect) → joined a (joined b c) ≡ joined (joined a b) c
@@ -73,7 +72,7 @@ mark_dropped [] = refl
 mark_dropped (c ∷ cs) = dropped_by c cs (eqb c 0xFEFF)
 
 module _ (p : List ℕ) (o : Options) where
-  met_marked : (r : TextInput) (start : Bool) (count c : ℕ) (lead : Lead) (e : Bool) (m : Met) →
+  met_marked : (r : TextInput) (start : Bool) (count c : ℕ) (lead : Option ℕ) (e : Bool) (m : Met) →
       met_of p o (marked r start count) c lead e m ≡ marked_step (met_of p o r c lead e m) start count
   met_marked r start count c lead e Line = refl
   met_marked r start count c lead e (Opens s) = refl
@@ -83,10 +82,10 @@ module _ (p : List ℕ) (o : Options) where
       left_of p o (marked r start count) c l ≡ marked_step (left_of p o r c l) start count
   left_marked r start count c (Part s) = refl
   left_marked r start count c Newline = refl
-  left_marked r start count c Goes = met_marked r start count c Nothing r.expect_starter (meet_of o c)
-  left_marked r start count c Ends = met_marked r start count c Nothing r.expect_starter (meet_of o c)
-  left_marked r start count c (After a) = met_marked r start count c (Char a) false (meet_of o c)
-  left_marked r start count c Dropped = met_marked r start count c Nothing false (meet_of o c)
+  left_marked r start count c Goes = met_marked r start count c None r.expect_starter (meet_of o c)
+  left_marked r start count c Ends = met_marked r start count c None r.expect_starter (meet_of o c)
+  left_marked r start count c (After a) = met_marked r start count c (Some a) false (meet_of o c)
+  left_marked r start count c Dropped = met_marked r start count c None false (meet_of o c)
 
   step_marked : (r : TextInput) (start : Bool) (count c : ℕ) →
       scan_step_of p o (marked r start count) c ≡ marked_step (scan_step_of p o r c) start count

@@ -25,8 +25,6 @@ use Rattle.text_input.specs.declared.State.{State}
 use Rattle.text_input.specs.declared.State.TheVariants.{Ground, Cr, Ff, Esc, CsiStart, Csi, Osc, Linux}
 use Rattle.text_input.specs.declared.Options.{Options}
 use Rattle.text_input.specs.declared.TextInput.{TextInput}
-use Rattle.text_input_parts.specs.declared.queue.Lead.{Lead}
-use Rattle.text_input_parts.specs.declared.queue.Lead.TheVariants.{Nothing, Char}
 use Rattle.text_input.specs.declared.step.Left.{Left}
 use Rattle.text_input.specs.declared.step.Left.TheVariants.{Part, Newline, Goes, Ends, After, Dropped}
 use Rattle.text_input.specs.declared.step.Met.{Met}
@@ -36,6 +34,7 @@ use Rattle.text_input.specs.Step.{out_chars, leave_of, replaced_by, meet_of, met
 use Rattle.text_input.specs.Scan.{skipped, opened, scan_chars, pending_of, after_line, finish_chars}
 use Rattle.text_input.specs.Inner.{outs}
 use Rattle.text_input.proofs.Room.{Given, given_pending}
+use Rattle.std.specs.Prelude.{Option, Some, None}
 
 pub other_no_escape : (o : Options) (c : ℕ) → meet_of o c ≡ Other → c ≡ 0x1B → ⊥
 unfolding meet_of
@@ -59,7 +58,7 @@ abbrev ReplacedPass : Options → (ℕ → Bool) → Type 0
 ReplacedPass o f = (c : ℕ) → is_char c ≡ true → (c ≡ 0x1B → ⊥) → T (all f (chars (replace_of o.units_compatibility c)))
 
 module _ (f : ℕ → Bool) (pass : Passes f) where
-  abbrev Leads : Lead → Type 0
+  abbrev Leads : Option ℕ → Type 0
   Leads l = T (all f (lead_chars l))
 
   pending_pass : (s : State) → Leads (pending_of s)
@@ -74,11 +73,11 @@ module _ (f : ℕ → Bool) (pass : Passes f) where
 
   -- ---- a step
   module _ (p : List ℕ) (o : Options) (replaced : ReplacedPass o f) where
-    guard_pass : (lead : Lead) (expect : Bool) (i : Replaced) → Leads lead → Leads (guard_of p lead expect i)
+    guard_pass : (lead : Option ℕ) (expect : Bool) (i : Replaced) → Leads lead → Leads (guard_of p lead expect i)
     guard_pass lead true i h = split Leads (basic_text_start p (first_char i)) (λ e. h) (λ e. one f 0x34F pass.joiner)
     guard_pass lead false i h = h
 
-    met_pass : (r : TextInput) (c : ℕ) (lead : Lead) (expect : Bool) (m : Met) → meet_of o c ≡ m → is_char c ≡ true → Leads lead →
+    met_pass : (r : TextInput) (c : ℕ) (lead : Option ℕ) (expect : Bool) (m : Met) → meet_of o c ≡ m → is_char c ≡ true → Leads lead →
         T (all f (out_chars (met_of p o r c lead expect m)))
     met_pass r c lead expect Line e char h = append f (lead_chars lead) (0x0A ∷ []) h (one f 0x0A pass.newline)
     met_pass r c lead expect (Opens s) e char h = append f (lead_chars lead) [] h tt
@@ -89,10 +88,10 @@ module _ (f : ℕ → Bool) (pass : Passes f) where
     left_pass : (r : TextInput) (c : ℕ) (l : Left) → Given r.state l → is_char c ≡ true → T (all f (out_chars (left_of p o r c l)))
     left_pass r c (Part s) h char = tt
     left_pass r c Newline h char = one f 0x0A pass.newline
-    left_pass r c Goes h char = met_pass r c Nothing r.expect_starter (meet_of o c) refl char tt
-    left_pass r c Ends h char = met_pass r c Nothing r.expect_starter (meet_of o c) refl char tt
-    left_pass r c (After a) h char = met_pass r c (Char a) false (meet_of o c) refl char (rw h at (pending_pass r.state))
-    left_pass r c Dropped h char = met_pass r c Nothing false (meet_of o c) refl char tt
+    left_pass r c Goes h char = met_pass r c None r.expect_starter (meet_of o c) refl char tt
+    left_pass r c Ends h char = met_pass r c None r.expect_starter (meet_of o c) refl char tt
+    left_pass r c (After a) h char = met_pass r c (Some a) false (meet_of o c) refl char (rw h at (pending_pass r.state))
+    left_pass r c Dropped h char = met_pass r c None false (meet_of o c) refl char tt
 
     step_pass : (r : TextInput) (c : ℕ) → is_char c ≡ true → T (all f (out_chars (scan_step_of p o r c)))
     unfolding scan_step_of

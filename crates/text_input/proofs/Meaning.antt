@@ -20,10 +20,6 @@ use Rattle.text_input.specs.declared.State.{State}
 use Rattle.text_input.specs.declared.State.TheVariants.{Ground}
 use Rattle.text_input.specs.declared.Options.{Options}
 use Rattle.text_input.specs.declared.TextInput.{TextInput}
-use Rattle.text_input_parts.specs.declared.queue.Lead.{Lead}
-use Rattle.text_input_parts.specs.declared.queue.Lead.TheVariants.{Nothing, Char}
-use Rattle.text_input_parts.specs.declared.queue.Image.{Image}
-use Rattle.text_input_parts.specs.declared.queue.Image.TheVariants.{Empty, Chars}
 use Rattle.text_input.specs.declared.step.Left.{Left}
 use Rattle.text_input.specs.declared.step.Left.TheVariants.{Part, Newline, Goes, Ends, After, Dropped}
 use Rattle.text_input.specs.declared.step.Met.{Met}
@@ -43,6 +39,7 @@ use Rattle.text_input.proofs.Sets.{option_is}
 use Rattle.text_input.proofs.Cut.{Inner, cr, ff, esc, csiStart, csi, osc, linux, state_of, kind_of, cut}
 use Rattle.text_input.proofs.Unique.{Class, opens, single, class, kind_c, tail_of, longest_of, first_unique, no_piece}
 use Rattle.text_input.proofs.Run.{Closed, pre, expect_after, guard, at, complete, told, onward, guard_line, run_cut}
+use Rattle.std.specs.Prelude.{Option, Some, None}
 
 -- ---- small laws
 guard_false : (p v : List ℕ) → guard p false v ≡ v
@@ -76,12 +73,12 @@ image_inner o linux w t = refl
 
 -- ---- any other character
 guarded_lead : (p : List ℕ) (e : Bool) (a : ℕ) (w : List ℕ) →
-    lead_chars (cond e (cond (basic_text_start p a) Nothing (Char 0x34F)) Nothing) ++ (a ∷ w) ≡ guard p e (a ∷ w)
+    lead_chars (cond e (cond (basic_text_start p a) None (Some 0x34F)) None) ++ (a ∷ w) ≡ guard p e (a ∷ w)
 unfolding guard
 guarded_lead p false a w = refl
 guarded_lead p true a w = by (basic_text_start p a)
   where
-    by : (b : Bool) → lead_chars (cond b Nothing (Char 0x34F)) ++ (a ∷ w) ≡ cond b [] (0x34F ∷ []) ++ (a ∷ w)
+    by : (b : Bool) → lead_chars (cond b None (Some 0x34F)) ++ (a ∷ w) ≡ cond b [] (0x34F ∷ []) ++ (a ∷ w)
     by true = refl
     by false = refl
 
@@ -95,8 +92,8 @@ module _ (p : List ℕ) (o : Options) (eof start : Bool) (count : ℕ) where
 
   -- a replacement is never empty
   over_other : (x : Replaced) (e : Bool) (n : ℕ) (t : List ℕ) →
-      pre (lead_chars (guard_of p Nothing e x) ++ chars x)
-      (from t (Ground false) false (last_of (last_of n (lead_chars (guard_of p Nothing e x))) (chars x)))
+      pre (lead_chars (guard_of p None e x) ++ chars x)
+      (from t (Ground false) false (last_of (last_of n (lead_chars (guard_of p None e x))) (chars x)))
       ≡ then false (chars x) e n t
   unfolding told expect_after
   over_other (One a) e n t = rw (guarded_lead p e a [])
@@ -186,22 +183,22 @@ record Keeps (r : TextInput) (s : Step) : Type 0 where
   start : s.next.at_start ≡ r.at_start
   count : s.next.count ≡ r.count
 
-made_keeps : (r : TextInput) (lead : Lead) (image : Image) (s : State) (e : Bool) → Keeps r (made_of r lead image s e)
+made_keeps : (r : TextInput) (lead : Option ℕ) (image : Option Replaced) (s : State) (e : Bool) → Keeps r (made_of r lead image s e)
 made_keeps r lead image s e =
     record { last = (last_append r.last (lead_chars lead) (image_chars image)); start = refl; count = refl }
 
-met_keeps : (p : List ℕ) (o : Options) (r : TextInput) (c : ℕ) (lead : Lead) (e : Bool) (m : Met) → Keeps r (met_of p o r c lead e m)
-met_keeps p o r c lead e Line = made_keeps r lead (Chars (One 0x0A)) (Ground true) false
-met_keeps p o r c lead e (Opens s) = made_keeps r lead Empty s e
-met_keeps p o r c lead e Other = made_keeps r (guard_of p lead e (replaced_by o c)) (Chars (replaced_by o c)) (Ground false) false
+met_keeps : (p : List ℕ) (o : Options) (r : TextInput) (c : ℕ) (lead : Option ℕ) (e : Bool) (m : Met) → Keeps r (met_of p o r c lead e m)
+met_keeps p o r c lead e Line = made_keeps r lead (Some (One 0x0A)) (Ground true) false
+met_keeps p o r c lead e (Opens s) = made_keeps r lead None s e
+met_keeps p o r c lead e Other = made_keeps r (guard_of p lead e (replaced_by o c)) (Some (replaced_by o c)) (Ground false) false
 
 left_keeps : (p : List ℕ) (o : Options) (r : TextInput) (c : ℕ) (l : Left) → Keeps r (left_of p o r c l)
-left_keeps p o r c (Part s) = made_keeps r Nothing Empty s r.expect_starter
-left_keeps p o r c Newline = made_keeps r Nothing (Chars (One 0x0A)) (Ground true) false
-left_keeps p o r c Goes = met_keeps p o r c Nothing r.expect_starter (meet_of o c)
-left_keeps p o r c Ends = met_keeps p o r c Nothing r.expect_starter (meet_of o c)
-left_keeps p o r c (After a) = met_keeps p o r c (Char a) false (meet_of o c)
-left_keeps p o r c Dropped = met_keeps p o r c Nothing false (meet_of o c)
+left_keeps p o r c (Part s) = made_keeps r None None s r.expect_starter
+left_keeps p o r c Newline = made_keeps r None (Some (One 0x0A)) (Ground true) false
+left_keeps p o r c Goes = met_keeps p o r c None r.expect_starter (meet_of o c)
+left_keeps p o r c Ends = met_keeps p o r c None r.expect_starter (meet_of o c)
+left_keeps p o r c (After a) = met_keeps p o r c (Some a) false (meet_of o c)
+left_keeps p o r c Dropped = met_keeps p o r c None false (meet_of o c)
 
 step_keeps : (p : List ℕ) (o : Options) (r : TextInput) (c : ℕ) → Keeps r (scan_step_of p o r c)
 unfolding scan_step_of

@@ -26,8 +26,6 @@ use Rattle.text_input.specs.declared.State.{State}
 use Rattle.text_input.specs.declared.State.TheVariants.{Ground, Cr, Ff, Esc, CsiStart, Csi, Osc, Linux}
 use Rattle.text_input.specs.declared.Options.{Options}
 use Rattle.text_input.specs.declared.TextInput.{TextInput}
-use Rattle.text_input_parts.specs.declared.queue.Lead.{Lead}
-use Rattle.text_input_parts.specs.declared.queue.Lead.TheVariants.{Nothing, Char}
 use Rattle.text_input.specs.declared.step.Left.{Left}
 use Rattle.text_input.specs.declared.step.Left.TheVariants.{Part, Newline, Goes, Ends, After, Dropped}
 use Rattle.text_input.specs.declared.step.Met.{Met}
@@ -40,6 +38,7 @@ use Rattle.text_input.specs.Step.{out_chars, csi_leave, leave_of, replaced_by, m
 use Rattle.text_input_parts.specs.Refusals.{places_for_chunk}
 use Rattle.text_input.specs.Scan.{skipped, opened, scan_chars, pending_of, after_line, finish_chars}
 use Rattle.text_input.specs.Inner.{outs}
+use Rattle.std.specs.Prelude.{Option, Some, None}
 
 -- ---- what a record owes
 abbrev bit : Bool → ℕ
@@ -82,12 +81,12 @@ abbrev cost : Step → ℕ
 cost s = length (lead_chars s.lead) + length (image_chars s.image) + owes s.next.state s.next.expect_starter
 
 module _ (p : List ℕ) (o : Options) (r : TextInput) (c bound : ℕ) where
-  guard_cost : (lead : Lead) (expect : Bool) (i : Replaced) → length (lead_chars lead) ≤ bound → bit expect ≤ bound →
+  guard_cost : (lead : Option ℕ) (expect : Bool) (i : Replaced) → length (lead_chars lead) ≤ bound → bit expect ≤ bound →
       length (lead_chars (guard_of p lead expect i)) ≤ bound
-  guard_cost lead true i l b = split (λ (g : Lead). length (lead_chars g) ≤ bound) (basic_text_start p (first_char i)) (λ e. l) (λ e. b)
+  guard_cost lead true i l b = split (λ (g : Option ℕ). length (lead_chars g) ≤ bound) (basic_text_start p (first_char i)) (λ e. l) (λ e. b)
   guard_cost lead false i l b = l
 
-  met_cost : (lead : Lead) (expect : Bool) (m : Met) → length (lead_chars lead) ≤ bound → bit expect ≤ bound →
+  met_cost : (lead : Option ℕ) (expect : Bool) (m : Met) → length (lead_chars lead) ≤ bound → bit expect ≤ bound →
       cost (met_of p o r c lead expect m) ≤ 3 + bound
   met_cost lead expect Line l b = omega arith
   met_cost lead expect (Opens s) l b = omega (arith, owes_one s expect)
@@ -99,7 +98,7 @@ Given s (Part t) = Unit {0}
 Given s Newline = Unit {0}
 Given s Goes = Unit {0}
 Given s Ends = Unit {0}
-Given s (After a) = pending_of s ≡ Char a
+Given s (After a) = pending_of s ≡ Some a
 Given s Dropped = Unit {0}
 
 csi_given : (s : State) (c : ℕ) → Given s (csi_leave c)
@@ -120,9 +119,9 @@ given_pending Linux c = split (Given Linux) (up_to7_f c) (λ e. tt) (λ e. tt)
 
 module _ (p : List ℕ) (o : Options) (r : TextInput) where
   -- the ground state takes c, and nothing was given before it
-  free_cost : (c : ℕ) → cost (ground_of p o r c Nothing r.expect_starter) ≤ 3 + owed r
+  free_cost : (c : ℕ) → cost (ground_of p o r c None r.expect_starter) ≤ 3 + owed r
   free_cost c =
-      met_cost p o r c (owed r) Nothing r.expect_starter (meet_of o c) (omega arith) (owes_guard r.state r.expect_starter)
+      met_cost p o r c (owed r) None r.expect_starter (meet_of o c) (omega arith) (owes_guard r.state r.expect_starter)
 
   left_cost : (c : ℕ) (l : Left) → Given r.state l → cost (left_of p o r c l) ≤ 3 + owed r
   left_cost c (Part s) h = omega (arith, owes_one s r.expect_starter)
@@ -131,8 +130,8 @@ module _ (p : List ℕ) (o : Options) (r : TextInput) where
   left_cost c Ends h = free_cost c
   left_cost c (After a) h =
       let one : pending r.state ≡ 1 = rw h in
-      met_cost p o r c (owed r) (Char a) false (meet_of o c) (omega (arith, owes_pending r.state r.expect_starter)) (omega arith)
-  left_cost c Dropped h = met_cost p o r c (owed r) Nothing false (meet_of o c) (omega arith) (omega arith)
+      met_cost p o r c (owed r) (Some a) false (meet_of o c) (omega (arith, owes_pending r.state r.expect_starter)) (omega arith)
+  left_cost c Dropped h = met_cost p o r c (owed r) None false (meet_of o c) (omega arith) (omega arith)
 
   step_cost : (c : ℕ) → cost (scan_step_of p o r c) ≤ 3 + owed r
   unfolding scan_step_of
@@ -189,18 +188,18 @@ pub scan_room : (p : List ℕ) (o : Options) (r : TextInput) (chunk : List ℕ) 
 scan_room p o r chunk = part_room p o (opened r (length chunk)) (skipped r chunk) chunk
 
 -- ---- a finish: a pending character is 0A or 20, which are ends, so that no 34F follows it
-lead_one : (l : Lead) → length (lead_chars l) ≤ 1
-lead_one Nothing = omega arith
-lead_one (Char a) = omega arith
+lead_one : (l : Option ℕ) → length (lead_chars l) ≤ 1
+lead_one None = omega arith
+lead_one (Some a) = omega arith
 
-tail_two : (a b : Lead) → length (lead_chars a ++ lead_chars b) ≤ 2
+tail_two : (a b : Option ℕ) → length (lead_chars a ++ lead_chars b) ≤ 2
 tail_two a b = simp length-append (omega (arith, lead_one a, lead_one b))
 
-after_end : (a : ℕ) (newline : Lead) → basic_text_end a ≡ true → length (lead_chars (end_mark_of a) ++ lead_chars newline) ≤ 1
+after_end : (a : ℕ) (newline : Option ℕ) → basic_text_end a ≡ true → length (lead_chars (end_mark_of a) ++ lead_chars newline) ≤ 1
 after_end a newline e = rw e (lead_one newline)
 
 -- whatever the newline is that follows
-pub ending_room : (s : State) (last : ℕ) (newline : Lead) →
+pub ending_room : (s : State) (last : ℕ) (newline : Option ℕ) →
     length (lead_chars (pending_of s) ++ (lead_chars (end_mark_of (last_of last (lead_chars (pending_of s)))) ++ lead_chars newline)) ≤ 2
 ending_room Cr last newline = omega (arith, after_end 0x0A newline end_newline)
 ending_room Ff last newline = omega (arith, after_end 0x20 newline end_space)

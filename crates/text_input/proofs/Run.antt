@@ -18,8 +18,6 @@ use Rattle.text_input.specs.declared.State.{State}
 use Rattle.text_input.specs.declared.State.TheVariants.{Ground, Cr, Csi, Osc}
 use Rattle.text_input.specs.declared.Options.{Options}
 use Rattle.text_input.specs.declared.TextInput.{TextInput}
-use Rattle.text_input_parts.specs.declared.queue.Lead.{Lead}
-use Rattle.text_input_parts.specs.declared.queue.Lead.TheVariants.{Nothing, Char}
 use Rattle.text_input.specs.declared.step.Left.{Left}
 use Rattle.text_input.specs.declared.step.Left.TheVariants.{Part, Ends, After, Dropped}
 use Rattle.text_input.specs.declared.step.Met.{Met}
@@ -35,6 +33,7 @@ use Rattle.text_input_parts.proofs.PieceSets.{parameter_is, final_is, string_end
 use Rattle.text_input.proofs.Recognise.{cond_id}
 use Rattle.text_input.proofs.Cut.{Inner, cr, ff, esc, csiStart, csi, osc, linux, state_of, kind_of, Move, goes, closes, stops}
 use Rattle.text_input.proofs.Cut.{move, Cut, cut, cut_by}
+use Rattle.std.specs.Prelude.{Option, Some, None}
 
 -- ---- what a text and a finish come to
 -- what they append, and whether a line has just ended at the finish
@@ -128,14 +127,14 @@ module _ (p : List ℕ) (o : Options) (eof start : Bool) (count : ℕ) where
   follow_cond false i m k e n c t = refl
 
   -- ---- the ground state takes the character: it does not see the state and expectation before
-  met_any : (m : Met) (s z : State) (d e x : Bool) (n c : ℕ) (lead : Lead) →
+  met_any : (m : Met) (s z : State) (d e x : Bool) (n c : ℕ) (lead : Option ℕ) →
       met_of p o (at s d n) c lead x m ≡ met_of p o (at z e n) c lead x m
   met_any Line s z d e x n c lead = refl
   met_any (Opens q) s z d e x n c lead = refl
   met_any Other s z d e x n c lead = refl
 
   met_after : (m : Met) (s z : State) (d e : Bool) (n c a : ℕ) (t : List ℕ) →
-      resume (met_of p o (at s d n) c (Char a) false m) t ≡ pre (a ∷ []) (resume (met_of p o (at z e a) c Nothing false m) t)
+      resume (met_of p o (at s d n) c (Some a) false m) t ≡ pre (a ∷ []) (resume (met_of p o (at z e a) c None false m) t)
   unfolding resume
   met_after Line s z d e n c a t = refl
   met_after (Opens q) s z d e n c a t = refl
@@ -143,12 +142,12 @@ module _ (p : List ℕ) (o : Options) (eof start : Bool) (count : ℕ) where
 
   leave_ends : (i : Inner) (b e : Bool) (n c : ℕ) (t : List ℕ) → leave i e n c t Ends ≡ complete (c ∷ t) (at (Ground b) e n)
   unfolding leave resume complete scan_step_of leave_of
-  leave_ends i b e n c t = rw (met_any (meet_of o c) (state_of i) (Ground b) e e e n c Nothing)
+  leave_ends i b e n c t = rw (met_any (meet_of o c) (state_of i) (Ground b) e e e n c None)
 
   leave_dropped : (i : Inner) (b e : Bool) (n c : ℕ) (t : List ℕ) →
       leave i e n c t Dropped ≡ complete (c ∷ t) (at (Ground b) false n)
   unfolding leave resume complete scan_step_of leave_of
-  leave_dropped i b e n c t = rw (met_any (meet_of o c) (state_of i) (Ground b) e false false n c Nothing)
+  leave_dropped i b e n c t = rw (met_any (meet_of o c) (state_of i) (Ground b) e false false n c None)
 
   leave_after : (i : Inner) (b e : Bool) (n c a : ℕ) (t : List ℕ) →
       leave i e n c t (After a) ≡ pre (a ∷ []) (complete (c ∷ t) (at (Ground b) false a))

@@ -20,7 +20,6 @@ use Rattle.text_utils.proofs.Classes.{end_newline}
 use Rattle.text_input.specs.declared.State.TheVariants.{Ground}
 use Rattle.text_input.specs.declared.Options.{Options}
 use Rattle.text_input.specs.declared.TextInput.{TextInput}
-use Rattle.text_input_parts.specs.declared.queue.Lead.TheVariants.{Nothing, Char}
 use Rattle.text_input_parts.specs.Appended.{lead_chars, last_of}
 use Rattle.text_input.specs.Scan.{fresh, finish_chars, finish_next}
 use Rattle.text_input.specs.Inner.{outs, ends}
@@ -29,6 +28,7 @@ use Rattle.text_input.specs.Streams.{Section, scans_chars, scans_next, stream_ch
 use Rattle.text_input.specs.Streams.{Readings, owed_after, section_of, stream_of}
 use Rattle.text_input.proofs.Meaning.{section_after, section_chars, section_next}
 use Rattle.text_input.proofs.Chunks.{marked, spent_outs, spent_ends, chunks_first, first_ends, count_of}
+use Rattle.std.specs.Prelude.{Some, None}
 
 -- the record that a finish leaves, and a fresh one: a start is expected, and nothing is pending
 abbrev pub ready : Bool → Bool → ℕ → ℕ → TextInput
@@ -40,11 +40,11 @@ pub nothing : finish_chars fresh true ≡ []
 nothing = rw end_newline
 
 -- ---- a section by its pieces, where a start is expected
-joiner_lead : (b : Bool) → lead_chars (cond b Nothing (Char 0x34F)) ≡ cond b [] (0x34F ∷ [])
+joiner_lead : (b : Bool) → lead_chars (cond b None (Some 0x34F)) ≡ cond b [] (0x34F ∷ [])
 joiner_lead true = refl
 joiner_lead false = refl
 
-newline_lead : (b : Bool) → lead_chars (cond b (Char 0x0A) Nothing) ≡ cond b (0x0A ∷ []) []
+newline_lead : (b : Bool) → lead_chars (cond b (Some 0x0A) None) ≡ cond b (0x0A ∷ []) []
 newline_lead true = refl
 newline_lead false = refl
 

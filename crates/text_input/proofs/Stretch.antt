@@ -27,8 +27,6 @@ use Rattle.text_input.specs.declared.State.{State}
 use Rattle.text_input.specs.declared.State.TheVariants.{Ground, Cr, Ff, Esc, CsiStart, Csi, Osc, Linux}
 use Rattle.text_input.specs.declared.Options.{Options}
 use Rattle.text_input.specs.declared.TextInput.{TextInput}
-use Rattle.text_input_parts.specs.declared.queue.Lead.TheVariants.{Nothing}
-use Rattle.text_input_parts.specs.declared.queue.Image.TheVariants.{Chars}
 use Rattle.text_input.specs.declared.step.Left.TheVariants.{Goes}
 use Rattle.text_input.specs.declared.step.Met.TheVariants.{Line, Other}
 use Rattle.text_input.specs.Sets.{optional_line}
@@ -39,6 +37,7 @@ use Rattle.text_input.specs.declared.Ran.{Ran}
 use Rattle.text_input.specs.Scan.{Effect, step_effect, run_of}
 use Rattle.text_input.specs.Inner.{outs, ends, grounded, steady, passed_by, ran_by, Moves}
 use Rattle.text_input.proofs.Chunks.{outs_append}
+use Rattle.std.specs.Prelude.{None, Some}
 
 -- ---- one character
 leave_ground : (s : State) (c : ℕ) → grounded s ≡ true → leave_of s c ≡ Goes
@@ -71,7 +70,7 @@ meet_line o = refl
 
 module _ (p : List ℕ) (o : Options) where
   abbrev Keeping : TextInput → ℕ → Type 0
-  Keeping r c = scan_step_of p o r c ≡ record { lead = Nothing; image = Chars (One c); next = passed_by r c }
+  Keeping r c = scan_step_of p o r c ≡ record { lead = None; image = Some (One c); next = passed_by r c }
 
   keep_by : (r : TextInput) (c : ℕ) → steady r ≡ true → Kept c → (b : Bool) → eqb c 0x0A ≡ b → Keeping r c
   unfolding scan_step_of

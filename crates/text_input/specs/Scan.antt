@@ -1,6 +1,6 @@
 -- The calls: a scan of a chunk and a finish, with what they answer, the record after and the lent places after, refused or not.
 -- Document 01, "A chunk comes in", "A stream finishes" and "Refused ..".
-use Rattle.std.specs.Prelude.{ℕ, ◌+◌, Bool, true, false, cond, not, ◌&&◌, ◌||◌, List, [], ◌∷◌, ◌++◌, eqb, ltb, length, drop}
+use Rattle.std.specs.Prelude.{ℕ, ◌+◌, Bool, true, false, cond, not, ◌&&◌, ◌||◌, List, [], ◌∷◌, ◌++◌, eqb, ltb, length, drop, Option, Some, None}
 use Rattle.std.proofs.lemmas.List.Edits.{sets}
 use Rattle.common.specs.Answers.{written_numbers}
 use Rattle.scalars.specs.Chars.{are_chars}
@@ -10,8 +10,6 @@ use Rattle.text_input.specs.declared.State.TheVariants.{Ground, Cr, Ff, Esc, Csi
 use Rattle.text_input.specs.declared.Options.{Options}
 use Rattle.text_input.specs.declared.TextInput.{TextInput}
 use Rattle.text_input.specs.declared.Scanned.{Scanned}
-use Rattle.text_input_parts.specs.declared.queue.Lead.{Lead}
-use Rattle.text_input_parts.specs.declared.queue.Lead.TheVariants.{Nothing, Char}
 use Rattle.text_input.specs.declared.step.Step.{Step}
 use Rattle.text_input_parts.specs.Appended.{lead_chars, last_of, end_mark_of, newline_of}
 use Rattle.text_input_parts.specs.Refusals.{places_for_chunk, refusal_of}
@@ -108,15 +106,15 @@ scan_of r p o chunk queue =
 
 -- ---- a finish: the status block of `read_with_status`
 -- "A pending 0D gives 0A, a pending page run 20, an open escape nothing."
-abbrev pub pending_of : State → Lead
-pending_of (Ground b) = Nothing
-pending_of Cr = Char 0x0A
-pending_of Ff = Char 0x20
-pending_of Esc = Nothing
-pending_of CsiStart = Nothing
-pending_of Csi = Nothing
-pending_of Osc = Nothing
-pending_of Linux = Nothing
+abbrev pub pending_of : State → Option ℕ
+pending_of (Ground b) = None
+pending_of Cr = Some 0x0A
+pending_of Ff = Some 0x20
+pending_of Esc = None
+pending_of CsiStart = None
+pending_of Csi = None
+pending_of Osc = None
+pending_of Linux = None
 
 -- "the last piece is a line end, no piece came since the last 0A so added, or there was no piece"
 abbrev pub after_line : State → Bool

@@ -4,7 +4,7 @@
 -- The states say what is pending. `Ground b`: nothing, and b says that a finish owes no 0A. `Cr`: 0D. `Ff`: a page run. The others an
 -- escape: `Esc` after 1B, `CsiStart` just after 1B `[`, `Csi` further on in it, `Osc` in a string begun by 1B `]`, `Linux` after
 -- 1B `[` `[`.
-use Rattle.std.specs.Prelude.{ℕ, Bool, true, false, cond, List, ◌++◌, eqb}
+use Rattle.std.specs.Prelude.{ℕ, Bool, true, false, cond, List, ◌++◌, eqb, Option, Some, None}
 use Rattle.replace.specs.declared.Replaced.{Replaced}
 use Rattle.replace.specs.declared.Replaced.TheVariants.{One}
 use Rattle.replace.specs.Replace.{replace_of}
@@ -12,10 +12,6 @@ use Rattle.text_input.specs.declared.State.{State}
 use Rattle.text_input.specs.declared.State.TheVariants.{Ground, Cr, Ff, Esc, CsiStart, Csi, Osc, Linux}
 use Rattle.text_input.specs.declared.Options.{Options}
 use Rattle.text_input.specs.declared.TextInput.{TextInput}
-use Rattle.text_input_parts.specs.declared.queue.Lead.{Lead}
-use Rattle.text_input_parts.specs.declared.queue.Lead.TheVariants.{Nothing, Char}
-use Rattle.text_input_parts.specs.declared.queue.Image.{Image}
-use Rattle.text_input_parts.specs.declared.queue.Image.TheVariants.{Empty, Chars}
 use Rattle.text_input.specs.declared.step.Left.{Left}
 use Rattle.text_input.specs.declared.step.Left.TheVariants.{Part, Newline, Goes, Ends, After, Dropped}
 use Rattle.text_input.specs.declared.step.Met.{Met}
@@ -65,7 +61,7 @@ meet_of o c =
 
 -- ---- the step
 -- it appends this, and leaves this state and expectation
-abbrev pub made_of : TextInput → Lead → Image → State → Bool → Step
+abbrev pub made_of : TextInput → Option ℕ → Option Replaced → State → Bool → Step
 made_of r lead image state expect =
     record {
       lead = lead;
@@ -84,21 +80,21 @@ abbrev pub replaced_by : Options → ℕ → Replaced
 replaced_by o c = replace_of o.units_compatibility c
 
 -- `State::Ground`, after a lead
-abbrev pub met_of : List ℕ → Options → TextInput → ℕ → Lead → Bool → Met → Step
-met_of p o r c lead expect Line = made_of r lead (Chars (One 0x0A)) (Ground true) false
-met_of p o r c lead expect (Opens s) = made_of r lead Empty s expect
-met_of p o r c lead expect Other = made_of r (guard_of p lead expect (replaced_by o c)) (Chars (replaced_by o c)) (Ground false) false
+abbrev pub met_of : List ℕ → Options → TextInput → ℕ → Option ℕ → Bool → Met → Step
+met_of p o r c lead expect Line = made_of r lead (Some (One 0x0A)) (Ground true) false
+met_of p o r c lead expect (Opens s) = made_of r lead None s expect
+met_of p o r c lead expect Other = made_of r (guard_of p lead expect (replaced_by o c)) (Some (replaced_by o c)) (Ground false) false
 
-abbrev pub ground_of : List ℕ → Options → TextInput → ℕ → Lead → Bool → Step
+abbrev pub ground_of : List ℕ → Options → TextInput → ℕ → Option ℕ → Bool → Step
 ground_of p o r c lead expect = met_of p o r c lead expect (meet_of o c)
 
 abbrev pub left_of : List ℕ → Options → TextInput → ℕ → Left → Step
-left_of p o r c (Part s) = made_of r Nothing Empty s r.expect_starter
-left_of p o r c Newline = made_of r Nothing (Chars (One 0x0A)) (Ground true) false
-left_of p o r c Goes = ground_of p o r c Nothing r.expect_starter
-left_of p o r c Ends = ground_of p o r c Nothing r.expect_starter
-left_of p o r c (After a) = ground_of p o r c (Char a) false
-left_of p o r c Dropped = ground_of p o r c Nothing false
+left_of p o r c (Part s) = made_of r None None s r.expect_starter
+left_of p o r c Newline = made_of r None (Some (One 0x0A)) (Ground true) false
+left_of p o r c Goes = ground_of p o r c None r.expect_starter
+left_of p o r c Ends = ground_of p o r c None r.expect_starter
+left_of p o r c (After a) = ground_of p o r c (Some a) false
+left_of p o r c Dropped = ground_of p o r c None false
 
 -- the step on c by the page p and the options o
 -- "The reference is `process_raw_string`."

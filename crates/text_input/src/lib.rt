@@ -24,7 +24,7 @@ use page::is_accepted;
 use ranges::Range;
 use scalars::{BOM, are_chars};
 use stretch::{ascii_or, first_gap, is_sought, next_gap, plain_end, put_run};
-use text_input_parts::queue::{Lead, end_mark, last_lead, owed_newline, put_if, put_three};
+use text_input_parts::queue::{end_mark, last_lead, owed_newline, put_if, put_three};
 use text_input_parts::refusals;
 use text_input_parts::refusals::refusal;
 
@@ -103,9 +103,9 @@ struct Moved {
 // What a finish appends, one after the other, and the record after it.
 #[derive(Clone, Copy)]
 pub struct Ending {
-    pub lead: Lead,
-    pub mark: Lead,
-    pub newline: Lead,
+    pub lead: Option<u32>,
+    pub mark: Option<u32>,
+    pub newline: Option<u32>,
     pub next: TextInput,
 }
 
@@ -426,18 +426,18 @@ pub fn is_ground(state: State) -> bool
 }
 
 // What is pending gives this at a finish.
-fn pending(state: State) -> Lead
+fn pending(state: State) -> Option<u32>
     ensures { result ≡ pending_of state }
 {
     match state {
-        State::Ground(_) => Lead::Nothing,
-        State::Cr => Lead::Char(0xa),
-        State::Ff => Lead::Char(0x20),
-        State::Esc => Lead::Nothing,
-        State::CsiStart => Lead::Nothing,
-        State::Csi => Lead::Nothing,
-        State::Osc => Lead::Nothing,
-        State::Linux => Lead::Nothing,
+        State::Ground(_) => None,
+        State::Cr => Some(0xa),
+        State::Ff => Some(0x20),
+        State::Esc => None,
+        State::CsiStart => None,
+        State::Csi => None,
+        State::Osc => None,
+        State::Linux => None,
     }
 }
 

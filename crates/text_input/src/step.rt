@@ -9,7 +9,7 @@ ghost use Rattle.text_input.specs.Step.{leave_of, esc_leave, csi_leave, meet_of,
 use super::{Options, State, TextInput};
 use replace::{Replaced, replace_by};
 use scalars::{ESC, FF, LS, NEL, PS};
-use text_input_parts::queue::{Image, Lead, guard, last_image, last_lead};
+use text_input_parts::queue::{guard, last_image, last_lead};
 use text_input_parts::sets::{is_final, is_newline_char, is_parameter, is_string_end, up_to_del};
 
 // What a character does to what is pending before it.
@@ -44,8 +44,8 @@ pub enum Met {
 // What a step appends, and the record after it.
 #[derive(Clone, Copy)]
 pub struct Step {
-    pub lead: Lead,
-    pub image: Image,
+    pub lead: Option<u32>,
+    pub image: Option<Replaced>,
     pub next: TextInput,
 }
 
@@ -155,7 +155,7 @@ fn meet(options: Options, c: u32) -> Met
 
 impl TextInput {
     // The step that appends this and leaves this state and expectation.
-    fn made(self, lead: Lead, image: Image, state: State, expect: bool) -> Step
+    fn made(self, lead: Option<u32>, image: Option<Replaced>, state: State, expect: bool) -> Step
         ensures { result ≡ made_of self lead image state expect }
     {
         Step {
@@ -172,7 +172,7 @@ impl TextInput {
     }
 
     // The ground state takes a character, after a lead. Inner: asks for an accepted page.
-    fn ground(self, page: &[u32], options: Options, c: u32, lead: Lead, expect: bool) -> Step
+    fn ground(self, page: &[u32], options: Options, c: u32, lead: Option<u32>, expect: bool) -> Step
         requires { accepted page.now ≡ true }
         ensures { result ≡ ground_of page.now options self c lead expect }
     {
@@ -180,15 +180,15 @@ impl TextInput {
         match met {
             Met::Line => self.made(
                 lead,
-                Image::Chars(Replaced::One(0xa)),
+                Some(Replaced::One(0xa)),
                 State::Ground(true),
                 false,
             ),
-            Met::Opens(state) => self.made(lead, Image::Empty, state, expect),
+            Met::Opens(state) => self.made(lead, None, state, expect),
             Met::Other => {
                 let image = replace_by(options.units_compatibility, c);
                 let guarded = guard(page, lead, expect, image);
-                self.made(guarded, Image::Chars(image), State::Ground(false), false)
+                self.made(guarded, Some(image), State::Ground(false), false)
             }
         }
     }
@@ -199,17 +199,17 @@ impl TextInput {
         ensures { result ≡ scan_step_of page.now options self c }
     {
         let state = self.state;
-        let mut lead = Lead::Nothing;
+        let mut lead = None;
         let mut expect = self.expect_starter;
         let left = leave(state, c);
         match left {
             Left::Part(part) => {
-                return self.made(Lead::Nothing, Image::Empty, part, self.expect_starter);
+                return self.made(None, None, part, self.expect_starter);
             }
             Left::Newline => {
                 return self.made(
-                    Lead::Nothing,
-                    Image::Chars(Replaced::One(0xa)),
+                    None,
+                    Some(Replaced::One(0xa)),
                     State::Ground(true),
                     false,
                 );
@@ -217,7 +217,7 @@ impl TextInput {
             Left::Goes => {}
             Left::Ends => {}
             Left::After(a) => {
-                lead = Lead::Char(a);
+                lead = Some(a);
                 expect = false;
             }
             Left::Dropped => {

@@ -7,15 +7,15 @@ use mathlib.Core.Bool.{true, false}
 use mathlib.Core.List.{List, [], ◌∷◌}
 use Rattle.replace.specs.declared.Replaced.{Replaced}
 use Rattle.text_utils.specs.Classes.{basic_text_start, basic_text_end}
-use Rattle.text_input_parts.specs.declared.queue.Lead.{Lead}
 use Rattle.text_input_parts.specs.Appended.{lead_chars, first_char, guard_of, end_mark_of}
+use Rattle.std.specs.Prelude.{Option}
 
 -- "If the first image character is no start, 34F goes before it."
-pub guard_puts : (p : List ℕ) (lead : Lead) (image : Replaced) → basic_text_start p (first_char image) ≡ false →
+pub guard_puts : (p : List ℕ) (lead : Option ℕ) (image : Replaced) → basic_text_start p (first_char image) ≡ false →
     lead_chars (guard_of p lead true image) ≡ 0x34F ∷ []
 guard_puts p lead image h = rw h
 
-pub guard_spares : (p : List ℕ) (lead : Lead) (image : Replaced) → basic_text_start p (first_char image) ≡ true →
+pub guard_spares : (p : List ℕ) (lead : Option ℕ) (image : Replaced) → basic_text_start p (first_char image) ≡ true →
     guard_of p lead true image ≡ lead
 guard_spares p lead image h = rw h
 

@@ -1,5 +1,6 @@
 // What a step or a finish appends: a lead, an image and marks, and their stores into the lent places from a place on. A store is inner:
-// it asks for room, and answers the place after what it stored. The stores of a step can be counted alone: for each variant the test
+// it asks for room, and answers the place after what it stored. A lead is what comes before an image, if anything does: a character that
+// was pending, or the 34F that guards the image's first character. An image is what the character itself gives, if it gives anything. The stores of a step can be counted alone: for each variant the test
 // whether to store comes last, so that a step's way to its variant goes on without a test of it.
 ghost use Rattle.std.specs.Prelude.{◌≡◌, true, ◌++◌, ◌+◌, ◌≤◌, length};
 ghost use Rattle.std.proofs.lemmas.List.Edits.{sets};
@@ -10,20 +11,6 @@ ghost use Rattle.text_input_parts.specs.Appended.{lead_chars, image_chars, first
 use replace::Replaced;
 use scalars::CGJ;
 use text_utils::{is_basic_text_end, is_basic_text_start};
-
-// What comes before an image: a character that was pending, or the 34F that guards the image's first character.
-#[derive(Clone, Copy)]
-pub enum Lead {
-    Nothing,
-    Char(u32),
-}
-
-// What the character itself gives.
-#[derive(Clone, Copy)]
-pub enum Image {
-    Empty,
-    Chars(Replaced),
-}
 
 fn first_char(image: Replaced) -> u32
     ensures { result ≡ first_char image }
@@ -36,7 +23,7 @@ fn first_char(image: Replaced) -> u32
 }
 
 // The lead, or 34F where a start is expected and the image begins with none. Inner: asks for an accepted page.
-pub fn guard(page: &[u32], lead: Lead, expect: bool, image: Replaced) -> Lead
+pub fn guard(page: &[u32], lead: Option<u32>, expect: bool, image: Replaced) -> Option<u32>
     requires { accepted page.now ≡ true }
     ensures { result ≡ guard_of page.now lead expect image }
 {
@@ -44,7 +31,7 @@ pub fn guard(page: &[u32], lead: Lead, expect: bool, image: Replaced) -> Lead
         if is_basic_text_start(page, first_char(image)) {
             lead
         } else {
-            Lead::Char(CGJ)
+            Some(CGJ)
         }
     } else {
         lead
@@ -52,12 +39,12 @@ pub fn guard(page: &[u32], lead: Lead, expect: bool, image: Replaced) -> Lead
 }
 
 // The last character appended, after a lead.
-pub fn last_lead(last: u32, lead: Lead) -> u32
+pub fn last_lead(last: u32, lead: Option<u32>) -> u32
     ensures { result ≡ last_of last (lead_chars lead) }
 {
     match lead {
-        Lead::Nothing => last,
-        Lead::Char(a) => a,
+        None => last,
+        Some(a) => a,
     }
 }
 
@@ -72,41 +59,41 @@ fn last_replaced(image: Replaced) -> u32
 }
 
 // The last character appended, after an image.
-pub fn last_image(last: u32, image: Image) -> u32
+pub fn last_image(last: u32, image: Option<Replaced>) -> u32
     ensures { result ≡ last_of last (image_chars image) }
 {
     match image {
-        Image::Empty => last,
-        Image::Chars(r) => last_replaced(r),
+        None => last,
+        Some(r) => last_replaced(r),
     }
 }
 
 // 34F after a last character that is no end.
-pub fn end_mark(last: u32) -> Lead
+pub fn end_mark(last: u32) -> Option<u32>
     ensures { result ≡ end_mark_of last }
 {
     if is_basic_text_end(last) {
-        Lead::Nothing
+        None
     } else {
-        Lead::Char(CGJ)
+        Some(CGJ)
     }
 }
 
 // 0A where it is owed.
-pub fn owed_newline(owed: bool) -> Lead
+pub fn owed_newline(owed: bool) -> Option<u32>
     ensures { result ≡ newline_of owed }
 {
-    if owed { Lead::Char(0xa) } else { Lead::Nothing }
+    if owed { Some(0xa) } else { None }
 }
 
-fn put_lead(queue: &mut [u32], at: usize, lead: Lead) -> usize
+fn put_lead(queue: &mut [u32], at: usize, lead: Option<u32>) -> usize
     requires { at + length (lead_chars lead) ≤ length queue.old }
     ensures value { result ≡ at + length (lead_chars lead) }
     ensures queue_after { queue.new ≡ sets queue.old at (lead_chars lead) }
 {
     match lead {
-        Lead::Nothing => at,
-        Lead::Char(a) => {
+        None => at,
+        Some(a) => {
             queue[at] = a;
             at + 1
         }
@@ -147,14 +134,14 @@ fn replaced_places(image: Replaced) -> usize
     }
 }
 
-fn put_lead_if(stores: bool, queue: &mut [u32], at: usize, lead: Lead) -> usize
+fn put_lead_if(stores: bool, queue: &mut [u32], at: usize, lead: Option<u32>) -> usize
     requires { at + length (lead_chars lead) ≤ limit_of stores queue.old }
     ensures value { result ≡ at + length (lead_chars lead) }
     ensures queue_after { queue.new ≡ stored_if stores queue.old at (lead_chars lead) }
 {
     match lead {
-        Lead::Nothing => at,
-        Lead::Char(a) => {
+        None => at,
+        Some(a) => {
             if stores {
                 queue[at] = a;
                 return at + 1;
@@ -164,14 +151,14 @@ fn put_lead_if(stores: bool, queue: &mut [u32], at: usize, lead: Lead) -> usize
     }
 }
 
-fn put_image_if(stores: bool, queue: &mut [u32], at: usize, image: Image) -> usize
+fn put_image_if(stores: bool, queue: &mut [u32], at: usize, image: Option<Replaced>) -> usize
     requires { at + length (image_chars image) ≤ limit_of stores queue.old }
     ensures value { result ≡ at + length (image_chars image) }
     ensures queue_after { queue.new ≡ stored_if stores queue.old at (image_chars image) }
 {
     match image {
-        Image::Empty => at,
-        Image::Chars(r) => {
+        None => at,
+        Some(r) => {
             if stores {
                 return put_replaced(queue, at, r);
             }
@@ -181,7 +168,13 @@ fn put_image_if(stores: bool, queue: &mut [u32], at: usize, image: Image) -> usi
 }
 
 // A lead and an image, one after the other, from a place on, stored or counted alone. Inner: asks for room.
-pub fn put_if(stores: bool, queue: &mut [u32], at: usize, lead: Lead, image: Image) -> usize
+pub fn put_if(
+    stores: bool,
+    queue: &mut [u32],
+    at: usize,
+    lead: Option<u32>,
+    image: Option<Replaced>,
+) -> usize
     requires { at + length (lead_chars lead ++ image_chars image) ≤ limit_of stores queue.old }
     ensures value { result ≡ at + length (lead_chars lead ++ image_chars image) }
     ensures queue_after { queue.new ≡ stored_if stores queue.old at (lead_chars lead ++ image_chars image) }
@@ -191,7 +184,7 @@ pub fn put_if(stores: bool, queue: &mut [u32], at: usize, lead: Lead, image: Ima
 }
 
 // Three leads, one after the other, from the first place on. Inner: asks for room.
-pub fn put_three(queue: &mut [u32], a: Lead, b: Lead, c: Lead) -> usize
+pub fn put_three(queue: &mut [u32], a: Option<u32>, b: Option<u32>, c: Option<u32>) -> usize
     requires { length (lead_chars a ++ (lead_chars b ++ lead_chars c)) ≤ length queue.old }
     ensures value { result ≡ length (lead_chars a ++ (lead_chars b ++ lead_chars c)) }
     ensures queue_after { queue.new ≡ sets queue.old 0 (lead_chars a ++ (lead_chars b ++ lead_chars c)) }

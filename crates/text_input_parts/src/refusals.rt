@@ -1,34 +1,39 @@
-// The refusals of a scan, by their numbers.
+// The refusals of a scan.
 ghost use Rattle.std.specs.Prelude.{◌≡◌, ◌≤◌};
-ghost use Rattle.common.specs.Answers.{room_refusal};
+ghost use Rattle.common.specs.Answers.{passed_number, room_refusal};
 ghost use Rattle.text_input_parts.specs.Refusals.{max_count, places_for_chunk, chunk_refusal, refusal_of};
 
-use common::{COUNT_LIMIT, NO_ROOM, NOT_A_CHAR, WRONG_PAGE};
+use common::Refusal;
 
 // The most characters that a record's count holds.
 pub const MAX_COUNT: usize = 4294967295;
 
-// The number by which a chunk of n characters is refused whatever the places, and 0 for none: by the record's count, whether the page
-// is accepted, and whether every value is a character. Total.
-pub fn chunk_refusal(count: u32, page: bool, chars: bool, n: usize) -> u32
-    ensures { result ≡ chunk_refusal count page chars n }
+// Whether a chunk of n characters is refused whatever the places, and why: by the record's count, whether the page is accepted, and
+// whether every value is a character. Total.
+#[tactic(auto, unfolding(crate::specs::Refusals::chunk_refusal))]
+pub fn chunk_refusal(count: u32, page: bool, chars: bool, n: usize) -> Result<(), Refusal>
+    ensures { passed_number result ≡ chunk_refusal count page chars n }
 {
     if !page {
-        WRONG_PAGE
-    } else if !chars {
-        NOT_A_CHAR
-    } else if MAX_COUNT - (count as usize) < n {
-        COUNT_LIMIT
-    } else {
-        0
+        return Err(Refusal::WrongPage);
     }
+    if !chars {
+        return Err(Refusal::NotAChar);
+    }
+    if MAX_COUNT - (count as usize) < n {
+        return Err(Refusal::CountLimit);
+    }
+    Ok(())
 }
 
-// The number by which a call that needs so many places is refused, and 0 for none. Total.
-pub fn room_refusal(needed: usize, room: usize) -> u32
-    ensures { result ≡ room_refusal needed room }
+// Whether a call that needs so many places is refused. Total.
+pub fn room_refusal(needed: usize, room: usize) -> Result<(), Refusal>
+    ensures { passed_number result ≡ room_refusal needed room }
 {
-    if room < needed { NO_ROOM } else { 0 }
+    if room < needed {
+        return Err(Refusal::NoRoom);
+    }
+    Ok(())
 }
 
 // How many places a chunk of n characters needs. Inner: asks for a chunk that the count can hold, so that the sum cannot wrap.
@@ -42,14 +47,10 @@ fn places_for(n: usize) -> usize
     3 * n + 1
 }
 
-// The number by which a scan of n characters is refused, and 0 where it is accepted: first whatever the places, then by these. Total.
-pub fn refusal(count: u32, page: bool, chars: bool, n: usize, room: usize) -> u32
-    ensures { result ≡ refusal_of count page chars n (places_for_chunk n) room }
+// Whether a scan of n characters is refused, and why: first whatever the places, then by these. Total.
+pub fn refusal(count: u32, page: bool, chars: bool, n: usize, room: usize) -> Result<(), Refusal>
+    ensures { passed_number result ≡ refusal_of count page chars n (places_for_chunk n) room }
 {
-    let no = chunk_refusal(count, page, chars, n);
-    if no == 0 {
-        room_refusal(places_for(n), room)
-    } else {
-        no
-    }
+    chunk_refusal(count, page, chars, n)?;
+    room_refusal(places_for(n), room)
 }
