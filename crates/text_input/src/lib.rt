@@ -19,7 +19,7 @@ ghost use Rattle.text_input.specs.Step.{scan_step_of, out_chars};
 ghost use Rattle.text_input.specs.Scan.{fresh, all_off, step_effect, run_of, skipped, opened, outcome, scan_of, pending_of, after_line, finish_chars, finish_next, finish_of};
 ghost use Rattle.text_input.specs.Inner.{outs, grounded, steady, passed_by, ran_by, Moves, ending_chars};
 
-use common::{Answer, NO_ROOM};
+use common::Refusal;
 use page::is_accepted;
 use ranges::Range;
 use scalars::{BOM, are_chars};
@@ -87,7 +87,7 @@ pub struct TextInput {
 // A call's answer, and the record after it.
 #[derive(Clone, Copy)]
 pub struct Scanned {
-    pub answer: Answer,
+    pub answer: Result<usize, Refusal>,
     pub next: TextInput,
 }
 
@@ -313,27 +313,24 @@ impl TextInput {
     pub fn scan(self, page: &[u32], options: Options, chunk: &[u32], queue: &mut [u32]) -> Scanned
         ensures { outcome result queue.new ≡ scan_of self page.now options chunk.now queue.old }
     {
-        let no = refusal(
+        if let Err(why) = refusal(
             self.count,
             is_accepted(page),
             are_chars(chunk),
             chunk.len(),
             queue.len(),
-        );
-        if no == 0 {
-            let from = self.skips(chunk);
-            let r = self.open(chunk.len() as u32);
-            let ran = r.run(page, options, &chunk[from..chunk.len()], queue);
-            let next = ran.next;
-            Scanned {
-                answer: Answer::Written(ran.written),
-                next,
-            }
-        } else {
-            Scanned {
-                answer: Answer::Refused(no),
+        ) {
+            return Scanned {
+                answer: Err(why),
                 next: self,
-            }
+            };
+        }
+        let from = self.skips(chunk);
+        let r = self.open(chunk.len() as u32);
+        let ran = r.run(page, options, &chunk[from..chunk.len()], queue);
+        Scanned {
+            answer: Ok(ran.written),
+            next: ran.next,
         }
     }
 
@@ -370,7 +367,7 @@ impl TextInput {
     {
         if queue.len() < 2 {
             return Scanned {
-                answer: Answer::Refused(NO_ROOM),
+                answer: Err(Refusal::NoRoom),
                 next: self,
             };
         }
@@ -381,7 +378,7 @@ impl TextInput {
         let written = put_three(queue, lead, mark, newline);
         let next = ending.next;
         Scanned {
-            answer: Answer::Written(written),
+            answer: Ok(written),
             next,
         }
     }

@@ -178,12 +178,7 @@ impl TextInput {
     {
         let met = meet(options, c);
         match met {
-            Met::Line => self.made(
-                lead,
-                Some(Replaced::One(0xa)),
-                State::Ground(true),
-                false,
-            ),
+            Met::Line => self.made(lead, Some(Replaced::One(0xa)), State::Ground(true), false),
             Met::Opens(state) => self.made(lead, None, state, expect),
             Met::Other => {
                 let image = replace_by(options.units_compatibility, c);
@@ -207,12 +202,7 @@ impl TextInput {
                 return self.made(None, None, part, self.expect_starter);
             }
             Left::Newline => {
-                return self.made(
-                    None,
-                    Some(Replaced::One(0xa)),
-                    State::Ground(true),
-                    false,
-                );
+                return self.made(None, Some(Replaced::One(0xa)), State::Ground(true), false);
             }
             Left::Goes => {}
             Left::Ends => {}

@@ -3,4 +3,3 @@
 pub mod Calls
 pub mod Laws
 pub mod Examples
-pub mod Answers

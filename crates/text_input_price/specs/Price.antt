@@ -1,24 +1,18 @@
 -- Asking how many places a chunk fills, and committing it: what they answer, and what a commit leaves, refused or not. Document 02, A.4:
 -- price the chunk, then take it.
-use Rattle.std.specs.Prelude.{ℕ, cond, List, [], ◌∷◌, eqb, length, Result, Ok, Err}
+use Rattle.std.specs.Prelude.{ℕ, cond, List, [], ◌∷◌, eqb, length}
 use Rattle.scalars.specs.Chars.{are_chars}
 use Rattle.page.specs.Page.{accepted}
 use Rattle.text_input_parts.specs.Refusals.{chunk_refusal, refusal_of}
 use Rattle.text_input.specs.declared.Options.{Options}
 use Rattle.text_input.specs.declared.TextInput.{TextInput}
 use Rattle.text_input.specs.Scan.{Outcome, refused, written, scan_chars, scan_next}
-use Rattle.common.specs.declared.Refusal.{Refusal}
 
 -- "how many places a chunk will fill from a given scanner record": as many as a scan writes characters. "the true number"
 abbrev pub places_filled : List ℕ → Options → TextInput → List ℕ → ℕ
 places_filled p o r chunk = length (scan_chars p o r chunk)
 
--- ---- asking
--- its answer by the documents' numbers: 0 and how many places, or the refusal's number
-abbrev pub price_numbers : Result ℕ Refusal → List ℕ
-price_numbers (Ok n) = 0 ∷ n ∷ []
-price_numbers (Err n) = n ∷ []
-
+-- ---- asking: an answer by the documents' numbers is 0 and how many places, or the refusal's number
 -- the number of its refusal, and 0 for none: "is refused by 2, 1 and 10 as a scan is"
 abbrev pub ask_refusal : ℕ → List ℕ → List ℕ → ℕ
 ask_refusal count p chunk = chunk_refusal count (accepted p) (are_chars chunk) (length chunk)

@@ -4,34 +4,24 @@
 #![tactic(auto)]
 
 ghost use Rattle.std.specs.Prelude.{◌≡◌};
+ghost use Rattle.common.specs.Answers.{written_numbers};
 ghost use Rattle.text_input.specs.Scan.{outcome};
-ghost use Rattle.text_input_price.specs.Price.{price_numbers, ask_of, commit_of};
+ghost use Rattle.text_input_price.specs.Price.{ask_of, commit_of};
 
-use common::{Answer, NO_ROOM};
+use common::Refusal;
 use page::is_accepted;
 use scalars::are_chars;
 use text_input::{Options, Scanned, TextInput};
 use text_input_parts::refusals::chunk_refusal;
 
-// What asking answers: how many places the chunk fills, or the number of a refusal.
-#[derive(Clone, Copy)]
-pub enum Price {
-    Places(usize),
-    Refused(u32),
-}
-
 // How many places a chunk fills from this record. Total: refuses 2, 1, 10, in this order. The record stays the caller's.
-pub fn ask(r: TextInput, page: &[u32], options: Options, chunk: &[u32]) -> Price
-    ensures { price_numbers result ≡ ask_of r page.now options chunk.now }
+pub fn ask(r: TextInput, page: &[u32], options: Options, chunk: &[u32]) -> Result<usize, Refusal>
+    ensures { written_numbers result ≡ ask_of r page.now options chunk.now }
 {
-    let no = chunk_refusal(r.count, is_accepted(page), are_chars(chunk), chunk.len());
-    if no == 0 {
-        let from = r.skips(chunk);
-        let opened = r.open(chunk.len() as u32);
-        Price::Places(opened.run_places(page, options, &chunk[from..chunk.len()]))
-    } else {
-        Price::Refused(no)
-    }
+    chunk_refusal(r.count, is_accepted(page), are_chars(chunk), chunk.len())?;
+    let from = r.skips(chunk);
+    let opened = r.open(chunk.len() as u32);
+    Ok(opened.run_places(page, options, &chunk[from..chunk.len()]))
 }
 
 // Takes a chunk as a scan does, but needs no more places than it fills; those past them stay. Total: refuses 2, 1, 10, and 8 for fewer
@@ -45,26 +35,24 @@ pub fn commit(
 ) -> Scanned
     ensures { outcome result queue.new ≡ commit_of r page.now options chunk.now queue.old }
 {
-    let price = ask(r, page, options, chunk);
-    match price {
-        Price::Refused(no) => Scanned {
-            answer: Answer::Refused(no),
+    match ask(r, page, options, chunk) {
+        Err(why) => Scanned {
+            answer: Err(why),
             next: r,
         },
-        Price::Places(needed) => {
+        Ok(needed) => {
             if queue.len() < needed {
                 return Scanned {
-                    answer: Answer::Refused(NO_ROOM),
+                    answer: Err(Refusal::NoRoom),
                     next: r,
                 };
             }
             let from = r.skips(chunk);
             let opened = r.open(chunk.len() as u32);
             let ran = opened.run(page, options, &chunk[from..chunk.len()], queue);
-            let next = ran.next;
             Scanned {
-                answer: Answer::Written(ran.written),
-                next,
+                answer: Ok(ran.written),
+                next: ran.next,
             }
         }
     }
