@@ -2,6 +2,7 @@
 -- The code's tests, as the function `machine` on lists, find each encoding that stands (`complete`), and nothing else
 -- (`sound`). So no two characters stand at one place, and the first found by `utf8_step_of` is the one.
 --     step_exactly    the step answers c and the place after it exactly where c stands
+--     stands_same     no two characters stand at one place
 --     step_stops      it stops exactly where nothing stands
 --     past_step, lead_step    the code's tests come to the step
 use Prim.Native.Nat.{ℕ, zero, suc, ◌+◌, ◌-◌, ◌*◌, ◌/◌, ◌%◌, ◌≤◌, ◌<◌}
@@ -230,7 +231,7 @@ char_in (Some (c, next)) = c
 char_in None = 0
 
 -- no two characters stand at one place
-stands_same : (bs : List ℕ) (at c d : ℕ) → Stands bs at c → Stands bs at d → c ≡ d
+pub stands_same : (bs : List ℕ) (at c d : ℕ) → Stands bs at c → Stands bs at d → c ≡ d
 stands_same bs at c d s t = ap char_in (sym (complete bs at c s) ∙ complete bs at d t)
 
 module _ (bs : List ℕ) (at : ℕ) where

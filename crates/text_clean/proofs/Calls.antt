@@ -31,7 +31,6 @@ use Rattle.text_clean.specs.declared.text.Tally.{Tally}
 use Rattle.text_clean.specs.declared.text.Taken.{Taken}
 use Rattle.text_clean.specs.declared.Cleaner.{Cleaner}
 use Rattle.text_clean.specs.declared.Counts.{Counts}
-use Rattle.text_clean.specs.declared.CleanAnswer.TheVariants.{Done}
 use Rattle.text_clean.specs.declared.Moved.{Moved}
 use Rattle.text_clean.specs.declared.Ran.{Ran}
 use Rattle.text_clean.specs.Text.{Passed, passed_of, closed_of}
@@ -40,6 +39,7 @@ use Rattle.text_clean.specs.Inner.{no_tally, Fits, replaced_more, counts_of, tak
 use Rattle.text_clean.proofs.Append.{tally_is, course_is, clean_way}
 use Rattle.text_clean.proofs.Room.{bit_le, passed_dropped, passed_lost, counts_fit, bytes_room, last_room}
 use Rattle.text_clean.proofs.Turns.{reached_is, Asks, Takes}
+use Rattle.std.specs.Prelude.{Ok}
 
 -- ---- whether so many places are too few
 pub short_none : (n room : ℕ) → n ≡ 0 → false ≡ is_short n room
@@ -118,7 +118,7 @@ module _ (r : Cleaner) (p : List ℕ) (o : Options) (lines : Bool) (bs places : 
 
       pub cleaned : (x : Ran) → ran_in x ≡ ran_by p o lines 0 (course_of r no_tally) bs →
           (after : List ℕ) → after ≡ sets places 0 (gives p o lines (course_of r no_tally) bs) →
-          (c : Counts) → c ≡ counts_of x.written x.tally → outcome (record { answer = Done c; next = x.next }) after ≡ clean_of r p o lines bs places
+          (c : Counts) → c ≡ counts_of x.written x.tally → outcome (record { answer = Ok c; next = x.next }) after ≡ clean_of r p o lines bs places
       unfolding clean_of
       cleaned x e after a c q =
           let n = ap (λ (y : Reached). y.written) e in
@@ -211,7 +211,7 @@ module _ (r : Cleaner) (p : List ℕ) (o : Options) (eof : Bool) (places : List 
 
           pub finished : (b : Taken) (after : List ℕ) → b ≡ taken_by a.at a.tally 0 (closed_of a.text eof) →
               after ≡ sets mid a.at (encode_all (closed_of a.text eof).out) → (c : Counts) → c ≡ counts_of b.at b.tally →
-              outcome (record { answer = Done c; next = record { pending = Nothing; text = b.text } }) after ≡ finish_of r p o eof places
+              outcome (record { answer = Ok c; next = record { pending = Nothing; text = b.text } }) after ≡ finish_of r p o eof places
           unfolding finish_of
           finished b after =
               rw (given.0, given.1)

@@ -26,13 +26,15 @@ use Rattle.text_input.specs.Sets.{optional_line}
 use Rattle.text_input.specs.Step.{leave_of, meet_of, scan_step_of}
 use Rattle.text_clean.specs.declared.text.Text.{Text}
 use Rattle.text_clean.specs.declared.Cleaner.{Cleaner}
-use Rattle.text_clean.specs.declared.CleanAnswer.{CleanAnswer}
-use Rattle.text_clean.specs.declared.CleanAnswer.TheVariants.{Done, Refused}
 use Rattle.text_clean.specs.Text.{fresh_text, in_escape, take_of}
 use Rattle.text_clean.specs.Clean.{Outcome, places_for_bytes, clean_of, finish_of}
 use Rattle.text_clean.specs.Calls.{Call, Answered, Seen, output_of, total_of, totals_of, accepted_of, chunks_of, bytes_of, FinishedOnce}
 use Rattle.text_clean.specs.Promise.{Promise}
 use Rattle.text_clean.proofs.Promise.{promise}
+use Rattle.common.specs.declared.Refusal.{Refusal}
+use Rattle.text_clean.specs.declared.Counts.{Counts}
+use Rattle.std.specs.Prelude.{Result, Ok, Err}
+use Rattle.common.specs.declared.Refusal.TheVariants.{WrongPage, NoRoom}
 
 pub data Act : Type 0 where
   clean : List ℕ → Act
@@ -229,12 +231,12 @@ calls =
     ∷ Call.finish page neither true (replicate 8 0xEE)
     ∷ []
 
-abbrev by : CleanAnswer → Pending → Text → List ℕ → Answered
+abbrev by : Result Counts Refusal → Pending → Text → List ℕ → Answered
 by answer pending text places =
     record { returned = record { answer = answer; next = record { pending = pending; text = text } }; places = places }
 
-abbrev counted : ℕ → ℕ → ℕ → CleanAnswer
-counted written read dropped = Done (record { written = written; read = read; replaced = 0; dropped = dropped; lost = 0 })
+abbrev counted : ℕ → ℕ → ℕ → Result Counts Refusal
+counted written read dropped = Ok (record { written = written; read = read; replaced = 0; dropped = dropped; lost = 0 })
 
 abbrev begun_text : State → Bool → ℕ → Text
 begun_text state expect last =
@@ -242,10 +244,10 @@ begun_text state expect last =
 
 unfoldable pub seen : List Answered
 seen =
-    by (Refused 8) Nothing fresh_text (replicate 15 0xEE)
-    ∷ by (Refused 2) Nothing fresh_text (replicate 16 0xEE)
+    by (Err NoRoom) Nothing fresh_text (replicate 15 0xEE)
+    ∷ by (Err WrongPage) Nothing fresh_text (replicate 16 0xEE)
     ∷ by (counted 0 0 0) (One 0xEF) fresh_text (replicate 16 0xEE)
-    ∷ by (Refused 8) (One 0xEF) fresh_text (replicate 7 0xEE)
+    ∷ by (Err NoRoom) (One 0xEF) fresh_text (replicate 7 0xEE)
     ∷ by (counted 1 2 1) Nothing (begun_text (Ground false) false 0x61) (0x61 ∷ replicate 21 0xEE)
     ∷ by (counted 1 0 0) Nothing (begun_text (Ground true) true 0x0A) (0x0A ∷ replicate 7 0xEE)
     ∷ []

@@ -25,13 +25,13 @@ use Rattle.text_input.proofs.Meaning.{ends_start}
 use Rattle.text_clean.specs.declared.text.Text.{Text}
 use Rattle.text_clean.specs.declared.Cleaner.{Cleaner}
 use Rattle.text_clean.specs.declared.Counts.{Counts}
-use Rattle.text_clean.specs.declared.CleanAnswer.TheVariants.{Done}
 use Rattle.text_clean.specs.Text.{Passed, begun, take_of, passed_of}
 use Rattle.text_clean.specs.Clean.{Outcome, refusal_of, places_for_bytes, chars_in, clean_of, finish_passed, finish_of}
 use Rattle.text_clean.specs.Calls.{total_of, totals_of}
 use Rattle.text_clean.specs.Inner.{no_tally}
 use Rattle.text_clean.specs.Refusals.{CleanLeaves, FinishLeaves}
 use Rattle.text_clean.proofs.Room.{by_take, bytes_room, last_room}
+use Rattle.std.specs.Prelude.{Ok}
 
 -- ---- the places that n bytes need
 short_is : (n room : ℕ) → ltb room (places_for_bytes n) ≡ ltb 0 n && ltb room (3 * n + 13)
@@ -152,7 +152,7 @@ module _ (r : Cleaner) (p : List ℕ) (o : Options) (eof : Bool) (places : List 
 
 -- ---- an answer's counts, by the names of its fields
 pub counts_told : (c : Counts) (next : Cleaner) (places : List ℕ) →
-    totals_of (record { returned = record { answer = Done c; next = next }; places = places } ∷ [])
+    totals_of (record { returned = record { answer = Ok c; next = next }; places = places } ∷ [])
     ≡ record { written = c.written; read = c.read; replaced = c.replaced; dropped = c.dropped; lost = c.lost }
 unfolding total_of
 counts_told c next places =

@@ -1,6 +1,6 @@
 -- The calls on bytes: what they answer, the record after and the lent places after, refused or not. What is written is the encoding of
 -- what the decoded characters come to.
-use Rattle.std.specs.Prelude.{ℕ, zero, suc, ◌+◌, ◌*◌, Bool, false, cond, not, List, [], ◌∷◌, eqb, length}
+use Rattle.std.specs.Prelude.{ℕ, zero, suc, ◌+◌, ◌*◌, Bool, false, cond, not, List, [], ◌∷◌, eqb, length, Result, Ok, Err}
 use Rattle.std.proofs.lemmas.List.Edits.{sets}
 use Rattle.common.specs.Answers.{then_room}
 use Rattle.scalars.specs.Utf8.{encode_all}
@@ -11,16 +11,17 @@ use Rattle.utf8_lossy.specs.Machine as decoder
 use Rattle.text_input.specs.declared.Options.{Options}
 use Rattle.text_clean.specs.declared.text.Text.{Text}
 use Rattle.text_clean.specs.declared.Cleaner.{Cleaner}
-use Rattle.text_clean.specs.declared.CleanAnswer.{CleanAnswer}
-use Rattle.text_clean.specs.declared.CleanAnswer.TheVariants.{Done, Refused}
 use Rattle.text_clean.specs.declared.Cleaned.{Cleaned}
 use Rattle.text_clean.specs.Text.{Passed, joined, passed_of, closed_of}
+use Rattle.common.specs.declared.Refusal.{Refusal}
+use Rattle.common.specs.Answers.{refusal_number}
+use Rattle.text_clean.specs.declared.Counts.{Counts}
 
 -- an answer by numbers: 0, the bytes written, the characters read, the bytes that U+FFFD stands for, the characters dropped and the
 -- line ends lost; or the refusal's number
-abbrev pub clean_numbers : CleanAnswer → List ℕ
-clean_numbers (Done c) = 0 ∷ c.written ∷ c.read ∷ c.replaced ∷ c.dropped ∷ c.lost ∷ []
-clean_numbers (Refused n) = n ∷ []
+abbrev pub clean_numbers : Result Counts Refusal → List ℕ
+clean_numbers (Ok c) = 0 ∷ c.written ∷ c.read ∷ c.replaced ∷ c.dropped ∷ c.lost ∷ []
+clean_numbers (Err e) = refusal_number e ∷ []
 
 -- the answer's numbers, the record after the call, by the bytes of a character that is cut off and the text, and the places as the
 -- call returns

@@ -22,11 +22,11 @@ ghost use Rattle.text_clean.specs.Text.{fresh_text, passed_of};
 ghost use Rattle.text_clean.specs.Clean.{outcome, clean_of, finish_of};
 ghost use Rattle.text_clean.specs.Inner.{no_tally, Fits, tallied, taken_by, line_end_at, LineAsks, line_moved, line_stored, is_nothing, replaced_more, counts_of, is_short, Course, course_of, gives, leads, ran_in, ran_by, Moves};
 
-use common::{NO_ROOM, WRONG_PAGE};
+use common::Refusal;
 use page::is_accepted;
 use plain::{copy_run, line_end, plain_run};
 use ranges::Range;
-use scalars::{Utf8Step, utf8_step};
+use scalars::utf8_step;
 use stretch::{first_gap, next_gap};
 pub use text::Text;
 use text::{Taken, Tally};
@@ -41,7 +41,7 @@ pub struct Cleaner {
 }
 
 // What a call counts, of the bytes that it takes.
-#[derive(Clone, Copy)]
+#[derive(Clone, Copy, Debug, PartialEq, Eq)]
 pub struct Counts {
     // Bytes written.
     pub written: usize,
@@ -55,17 +55,10 @@ pub struct Counts {
     pub lost: usize,
 }
 
-// What a call answers: what it counted, or the number of a refusal.
-#[derive(Clone, Copy)]
-pub enum CleanAnswer {
-    Done(Counts),
-    Refused(u32),
-}
-
 // A call's answer, and the record after it.
 #[derive(Clone, Copy)]
 pub struct Cleaned {
-    pub answer: CleanAnswer,
+    pub answer: Result<Counts, Refusal>,
     pub next: Cleaner,
 }
 
@@ -323,7 +316,7 @@ impl Cleaner {
                 }
             }
             match utf8_step(bytes, i) {
-                Utf8Step::Char(c, after) => {
+                Some((c, after)) => {
                     let taken = text.take(page, options, lines, c, out, k, tally);
                     let next = taken.text;
                     let sofar = taken.tally;
@@ -339,7 +332,7 @@ impl Cleaner {
                         gap: near,
                     };
                 }
-                Utf8Step::Stop => {}
+                None => {}
             }
         }
         let ran = self.take_byte(page, options, lines, bytes[i], out, k, tally);
@@ -398,13 +391,13 @@ impl Cleaner {
     {
         if !is_accepted(page) {
             return Cleaned {
-                answer: CleanAnswer::Refused(WRONG_PAGE),
+                answer: Err(Refusal::WrongPage),
                 next: self,
             };
         }
         if is_short(bytes.len(), out.len()) {
             return Cleaned {
-                answer: CleanAnswer::Refused(NO_ROOM),
+                answer: Err(Refusal::NoRoom),
                 next: self,
             };
         }
@@ -412,7 +405,7 @@ impl Cleaner {
         let next = ran.next;
         let tally = ran.tally;
         Cleaned {
-            answer: CleanAnswer::Done(count_all(ran.written, tally)),
+            answer: Ok(count_all(ran.written, tally)),
             next,
         }
     }
@@ -424,13 +417,13 @@ impl Cleaner {
     {
         if !is_accepted(page) {
             return Cleaned {
-                answer: CleanAnswer::Refused(WRONG_PAGE),
+                answer: Err(Refusal::WrongPage),
                 next: self,
             };
         }
         if out.len() < 8 {
             return Cleaned {
-                answer: CleanAnswer::Refused(NO_ROOM),
+                answer: Err(Refusal::NoRoom),
                 next: self,
             };
         }
@@ -445,7 +438,7 @@ impl Cleaner {
         let next = closed.text;
         let all = closed.tally;
         Cleaned {
-            answer: CleanAnswer::Done(count_all(closed.at, all)),
+            answer: Ok(count_all(closed.at, all)),
             next: Cleaner {
                 pending: Pending::Nothing,
                 text: next,

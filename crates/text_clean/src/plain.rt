@@ -7,7 +7,7 @@ ghost use Rattle.stretch.specs.Plain.{Gap};
 ghost use Rattle.text_clean.specs.Inner.{plain_byte, PlainBytes, PlainTo, PlainRun, line_end_at};
 
 use ranges::{Range, in_range};
-use scalars::{Utf8Step, utf8_step};
+use scalars::utf8_step;
 
 // Where a run ends, how many characters it has, and the last of them.
 #[derive(Clone, Copy)]
@@ -80,7 +80,7 @@ pub fn plain_run(bytes: &[u8], from: usize, gap: Range) -> PlainEnd
             last = bytes[end - 1] as u32;
             at = end;
         }
-        let Utf8Step::Char(c, next) = utf8_step(bytes, at) else {
+        let Some((c, next)) = utf8_step(bytes, at) else {
             return PlainEnd { at, chars, last };
         };
         if !(in_range(gap, c) & (c != 0x149) & (c != 0x673)) {

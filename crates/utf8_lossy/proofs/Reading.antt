@@ -28,7 +28,7 @@ use Rattle.common.proofs.Lists.{take_first}
 use Rattle.scalars.specs.Chars.{is_char, are_chars}
 use Rattle.scalars.specs.Utf8.{encode_of, encode_all, Encoding, begins, Stands, chars_of}
 use Rattle.scalars.proofs.Rows.{char_high, length_encode}
-use Rattle.scalars.proofs.Steps.{step_exactly}
+use Rattle.scalars.proofs.Steps.{stands_same}
 use Rattle.scalars.proofs.Texts.{decode_encode}
 use Rattle.utf8_lossy.specs.declared.Kind.{Kind}
 use Rattle.utf8_lossy.specs.declared.Kind.TheVariants.{Whole, More, Bad}
@@ -68,10 +68,7 @@ stands : (l e r : List ℕ) (k : Encoding e) → l ≡ e ++ r → Stands l 0 k.0
 stands l e r k h = record { char = k.1; bytes = rw (h, ← k.2) (begins_front e r) }
 
 same_char : (l e f r s : List ℕ) (k : Encoding e) (m : Encoding f) → l ≡ e ++ r → l ≡ f ++ s → k.0 ≡ m.0
-same_char l e f r s k m h i =
-    let p = (step_exactly l 0 k.0 _).1 (stands l e r k h, refl) in
-    let q = (step_exactly l 0 m.0 _).1 (stands l f s m i, refl) in
-    cc
+same_char l e f r s k m h i = stands_same l 0 k.0 m.0 (stands l e r k h) (stands l f s m i)
 
 -- no encoding is the start of another
 same_first : (l e f r s : List ℕ) → Encoding e → Encoding f → l ≡ e ++ r → l ≡ f ++ s → e ≡ f

@@ -23,10 +23,13 @@ use Rattle.utf8_lossy.specs.declared.Pending.{Pending}
 use Rattle.utf8_lossy.specs.declared.Pending.TheVariants.{Nothing, One, Two, Three}
 use Rattle.utf8_lossy.specs.declared.Out.{Out}
 use Rattle.utf8_lossy.specs.declared.Out.TheVariants.{Nothing as NoChar, One as OneChar, Two as TwoChars}
-use Rattle.utf8_lossy.specs.declared.Counted.{Counted}
-use Rattle.utf8_lossy.specs.declared.Counted.TheVariants.{Counts, Refused}
 use Rattle.utf8_lossy.specs.Machine.{whole_of, on_tail, lead_three, lead_four, next_of, fresh_of, turn_of, step_of, outs_of, rest_of, replaced_of, finish_of}
 use Rattle.utf8_lossy.specs.Decode.{pending_of, chars_out, counted_numbers}
+use Rattle.common.specs.declared.Refusal.{Refusal}
+use Rattle.utf8_lossy.specs.declared.Counted.{Counted}
+use Rattle.std.specs.Prelude.{Result, Ok, Err}
+use Rattle.common.specs.declared.Refusal.TheVariants.{NoRoom}
+use Rattle.common.proofs.Answers.{refusal_by, refusal_back}
 
 -- ---- characters
 held_fresh : (k : Kind) (b : ℕ) → length (fresh_of k b).out + length (finish_of (fresh_of k b).pending) ≡ 1
@@ -159,12 +162,12 @@ chars_back NoChar = refl
 chars_back (OneChar c) = refl
 chars_back (TwoChars c d) = refl
 
-abbrev pub counted_of : List ℕ → Counted
-counted_of [] = Refused 0
-counted_of (n ∷ []) = Refused n
-counted_of (n ∷ k ∷ []) = Refused n
-counted_of (n ∷ k ∷ m ∷ ns) = Counts k m
+abbrev pub counted_of : List ℕ → Result Counted Refusal
+counted_of [] = Err NoRoom
+counted_of (n ∷ []) = Err (refusal_by n)
+counted_of (n ∷ k ∷ []) = Err (refusal_by n)
+counted_of (n ∷ k ∷ m ∷ ns) = Ok (record { written = k; replaced = m })
 
-pub counted_back : (a : Counted) → counted_of (counted_numbers a) ≡ a
-counted_back (Counts k m) = refl
-counted_back (Refused n) = refl
+pub counted_back : (a : Result Counted Refusal) → counted_of (counted_numbers a) ≡ a
+counted_back (Ok counted) = refl
+counted_back (Err e) = rw (refusal_back e)

@@ -1,17 +1,17 @@
 -- The entries: what a record holds, what a step and a chunk answer, and what a chunk leaves in the lent places. Calls on chunks, one after
 -- the other.
-use Rattle.std.specs.Prelude.{ℕ, zero, suc, ◌+◌, ◌≤◌, ◌<◌, cond, List, [], ◌∷◌, ◌++◌, ◌≡◌, eqb, length, get_or, drop}
+use Rattle.std.specs.Prelude.{ℕ, zero, suc, ◌+◌, ◌≤◌, ◌<◌, cond, List, [], ◌∷◌, ◌++◌, ◌≡◌, eqb, length, get_or, drop, Result, Ok, Err}
 use Rattle.std.proofs.lemmas.List.Edits.{sets}
-use Rattle.common.specs.Answers.{room_refusal, refusal_in, written_in, wrote_in}
+use Rattle.common.specs.Answers.{refusal_number, room_refusal, refusal_in, written_in, wrote_in}
 use Rattle.utf8_lossy.specs.declared.Pending.{Pending}
 use Rattle.utf8_lossy.specs.declared.Pending.TheVariants.{Nothing, One, Two, Three}
 use Rattle.utf8_lossy.specs.declared.Out.{Out}
 use Rattle.utf8_lossy.specs.declared.Out.TheVariants.{Nothing as NoChar, One as OneChar, Two as TwoChars}
 use Rattle.utf8_lossy.specs.declared.Stepped.{Stepped}
-use Rattle.utf8_lossy.specs.declared.Counted.{Counted}
-use Rattle.utf8_lossy.specs.declared.Counted.TheVariants.{Counts, Refused}
 use Rattle.utf8_lossy.specs.declared.Decoded.{Decoded}
 use Rattle.utf8_lossy.specs.Machine.{Turn, outs_of, rest_of, replaced_of}
+use Rattle.common.specs.declared.Refusal.{Refusal}
+use Rattle.utf8_lossy.specs.declared.Counted.{Counted}
 
 -- the bytes that a record holds; no two records hold the same (`pending_back`)
 abbrev pub pending_of : Pending → List ℕ
@@ -34,9 +34,9 @@ turn_in r = record { pending = pending_of r.next; out = chars_out r.out; replace
 -- ---- a chunk
 -- the answer by numbers: 0, how many characters were written and how many bytes are replaced in them; or the refusal's number
 -- "Where an answer is an enum, a definition lists this paper's number and values for each case."
-abbrev pub counted_numbers : Counted → List ℕ
-counted_numbers (Counts chars replaced) = 0 ∷ chars ∷ replaced ∷ []
-counted_numbers (Refused n) = n ∷ []
+abbrev pub counted_numbers : Result Counted Refusal → List ℕ
+counted_numbers (Ok counted) = 0 ∷ counted.written ∷ counted.replaced ∷ []
+counted_numbers (Err e) = refusal_number e ∷ []
 
 -- the answer by its numbers, the pending bytes after the call, and the lent places as it returns
 pub record Outcome : Type 0 where

@@ -8,7 +8,7 @@ ghost use Rattle.std.proofs.lemmas.List.Edits.{sets};
 ghost use Rattle.utf8_lossy.specs.Machine.{whole_of, next_of, fresh_of, behind, step_of, finish_of};
 ghost use Rattle.utf8_lossy.specs.Decode.{pending_of, chars_out, turn_in, outcome, decode_of};
 
-use common::NO_ROOM;
+use common::Refusal;
 use scalars::{REPL, is_char};
 
 // What the pending bytes and one byte more are: a character, part of one, or no start of any.
@@ -44,17 +44,17 @@ pub struct Stepped {
     pub replaced: usize,
 }
 
-// How many characters were written and how many bytes are replaced in them, or the number of a refusal.
-#[derive(Clone, Copy)]
-pub enum Counted {
-    Counts(usize, usize),
-    Refused(u32),
+// How many characters were written, and how many bytes are replaced in them.
+#[derive(Clone, Copy, Debug, PartialEq, Eq)]
+pub struct Counted {
+    pub written: usize,
+    pub replaced: usize,
 }
 
 // A call's answer, and the record after it.
 #[derive(Clone, Copy)]
 pub struct Decoded {
-    pub answer: Counted,
+    pub answer: Result<Counted, Refusal>,
     pub next: Pending,
 }
 
@@ -265,7 +265,7 @@ impl Pending {
     {
         if !bytes.is_empty() && out.len() <= bytes.len() {
             return Decoded {
-                answer: Counted::Refused(NO_ROOM),
+                answer: Err(Refusal::NoRoom),
                 next: self,
             };
         }
@@ -279,7 +279,7 @@ impl Pending {
             pending = stepped.next;
         }
         Decoded {
-            answer: Counted::Counts(written, replaced),
+            answer: Ok(Counted { written, replaced }),
             next: pending,
         }
     }

@@ -126,17 +126,17 @@ take-requires c κs =
     let a = c.args in (
       c.requires.0,
       char_asks a.page.now a.options a.lines (course_of a.self a.tally) a.bytes.now a.i a.out.now a.k c.requires.1.0
-          (nothing c.before.before.before.before.before.before) _ _ (sym c.utf8_step.ensures ∙ c.in-Char.is) c.requires.1.1.1.0 c.requires.1.1.1.1,
+          (nothing c.before.before.before.before.before.before) _ _ (sym c.utf8_step.ensures ∙ c.in-Some.is) c.requires.1.1.1.0 c.requires.1.1.1.1,
     )
 
 next-gap-requires : tie.Need-next_gap-near-requires
 next-gap-requires c κs = c.requires.1.1.0
 
-returns-3 : tie.Need-returns-in-Char
+returns-3 : tie.Need-returns-in-Some
 returns-3 c =
     let a = c.args in
     char_moves a.page.now a.options a.lines (course_of a.self a.tally) a.bytes.now a.i a.out.now a.k c.requires.1.0
-    (nothing c.before.before.before.before.before.before.before.before.before.before.before.before) _ _ (sym c.utf8_step.ensures ∙ c.in-Char.is) c.take-taken.result _ c.take-taken.ensures _ c.next_gap-near.ensures
+    (nothing c.before.before.before.before.before.before.before.before.before.before.before.before) _ _ (sym c.utf8_step.ensures ∙ c.in-Some.is) c.take-taken.result _ c.take-taken.ensures _ c.next_gap-near.ensures
 
 -- ---- a byte
 take-byte-requires : tie.Need-take_byte-ran-requires

@@ -54,8 +54,8 @@ returns-2 c = (behind c.before.before.before.before).1.run
 
 -- a character of the gap stands there
 step : (c : tie.Else-not-in_range-c invariant-loop decreases-loop) →
-    utf8_step_of c.args.bytes.now c.if-at-end.at ≡ Some (c.in-Char.c, c.in-Char.next)
-step c = sym c.utf8_step.ensures ∙ c.in-Char.is
+    utf8_step_of c.args.bytes.now c.if-at-end.at ≡ Some (c.in-Some.c, c.in-Some.next)
+step c = sym c.utf8_step.ensures ∙ c.in-Some.is
 
 add-chars-2 : tie.Need-overflow_add-chars-in-loop-at invariant-loop decreases-loop
 add-chars-2 c =
@@ -68,10 +68,10 @@ loop-less c =
 loop-again : tie.Need-loop-at-preserved invariant-loop decreases-loop
 unfolding in_gap
 loop-again c =
-    let x = c.in-Char.c in
+    let x = c.in-Some.c in
     let i : (c.in_range.result && not (eqb x 0x149)) && not (eqb x 0x673) ≡ true = c.if-not-in_range-c.false in
     run_char c.args.bytes.now c.args.from c.args.gap c.requires.1 c.if-at-end.at c.if-at-end.chars c.if-at-end.last (behind c.before.before.before.before.before).1
-    x c.in-Char.next (step c.before) (rw c.in_range.ensures at i)
+    x c.in-Some.next (step c.before) (rw c.in_range.ensures at i)
 
 pub plain_run_spec : {M : Type 1} → statement M
 plain_run_spec =
