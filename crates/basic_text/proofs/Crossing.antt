@@ -14,8 +14,6 @@ use Rattle.check_char.specs.declared.BasicTextError.TheVariants.{ColorEscapeSequ
 use Rattle.check_char.proofs.Back.{error_of}
 use Rattle.text_input.specs.declared.Options.{Options}
 use Rattle.text_input.specs.Scan.{outcome}
-use Rattle.text_output.specs.declared.Wrote.{Wrote}
-use Rattle.text_output.specs.declared.Wrote.TheVariants.{HandedOut, Refused, Abandon, Unwritable}
 use Rattle.text_output.specs.Writer.{bytes_outcome}
 use Rattle.basic_text_numbers.specs.Numbers.{flag_number}
 use Rattle.basic_text.specs.declared.WriteReply.{WriteReply}
@@ -26,7 +24,9 @@ use Rattle.text_input.specs.declared.TextInput.{TextInput}
 use Rattle.text_output.specs.declared.TextOutput.{TextOutput}
 use Rattle.basic_text_numbers.proofs.Back.{flag_back, state_back, mode_back, writer_state_back}
 use Rattle.basic_text.specs.Exports.{number_of, numbers_of, bytes_of, record_of, options_of, record_numbers, reply_of, writer_of, writer_numbers, write_reply_of}
-use Rattle.std.specs.Prelude.{Ok, Err}
+use Rattle.std.specs.Prelude.{Ok, Err, Result}
+use Rattle.text_output.specs.declared.WriteError.{WriteError}
+use Rattle.text_output.specs.declared.WriteError.TheVariants.{Refused, Abandon, Unwritable}
 
 -- "Scan, finish and byte write are exported on numbers and byte slices for the Rust harness."
 pub record_back : (r : TextInput) → record_of (record_numbers r) ≡ r
@@ -110,7 +110,7 @@ pub reply_refused : (k : ℕ) (next : TextInput) (places : List ℕ) →
     let r = reply_of (outcome (record { answer = Err k; next = next }) places) in (r.refused ≡ k) × (r.written ≡ 0)
 reply_refused k next places = (refl, refl)
 
-abbrev replied : ℕ → Wrote → TextOutput → WriteReply
+abbrev replied : ℕ → Result ℕ WriteError → TextOutput → WriteReply
 replied used answer next = write_reply_of (bytes_outcome (record { used = used; answer = answer; next = next }) [])
 
 -- refused or not, told to abandon or not, how many bytes taken and characters handed out
@@ -125,18 +125,18 @@ abbrev nothing : List ℕ
 nothing = 0 ∷ 0 ∷ 0 ∷ 0 ∷ 0 ∷ 0 ∷ []
 
 module _ (used : ℕ) (next : TextOutput) where
-  pub reply_handed : (k : ℕ) → let r = replied used (HandedOut k) next in (told r ≡ 0 ∷ 0 ∷ used ∷ k ∷ []) × (r.reason ≡ 0)
+  pub reply_handed : (k : ℕ) → let r = replied used (Ok k) next in (told r ≡ 0 ∷ 0 ∷ used ∷ k ∷ []) × (r.reason ≡ 0)
   reply_handed k = (refl, refl)
 
-  pub reply_quiet : (n : ℕ) → let r = replied used (Refused n) next in (told r ≡ n ∷ 0 ∷ used ∷ 0 ∷ []) × (why r ≡ nothing)
+  pub reply_quiet : (n : ℕ) → let r = replied used (Err (Refused n)) next in (told r ≡ n ∷ 0 ∷ used ∷ 0 ∷ []) × (why r ≡ nothing)
   reply_quiet n = (refl, refl)
 
   -- "tell the caller to abandon"
-  pub reply_abandon : (n : ℕ) → let r = replied used (Abandon n) next in (told r ≡ n ∷ 1 ∷ used ∷ 0 ∷ []) × (why r ≡ nothing)
+  pub reply_abandon : (n : ℕ) → let r = replied used (Err (Abandon n)) next in (told r ≡ n ∷ 1 ∷ used ∷ 0 ∷ []) × (why r ≡ nothing)
   reply_abandon n = (refl, refl)
 
   -- "4 .. with the reason as the place in `BasicTextError`"
-  pub reply_unwritable : (e : BasicTextError) → let r = replied used (Unwritable e) next in
+  pub reply_unwritable : (e : BasicTextError) → let r = replied used (Err (Unwritable e)) next in
       (told r ≡ 4 ∷ 1 ∷ used ∷ 0 ∷ []) × (error_of (why r) ≡ e)
   reply_unwritable ColorEscapeSequence = (refl, refl)
   reply_unwritable (ControlCode c) = (refl, refl)

@@ -1,6 +1,7 @@
 -- The writer's record and what steps change of it, what its calls answer, and the after-newline state. Document 01, "Characters go
 -- out" and "Refused ..".
-use Rattle.std.specs.Prelude.{ℕ, Bool, true, false, ◌&&◌, List, [], ◌∷◌, eqb, leb, replicate}
+use Rattle.std.specs.Prelude.{ℕ, Bool, true, false, ◌&&◌, List, [], ◌∷◌, eqb, leb, replicate, ⊤, Result, Ok, Err}
+use Rattle.common.specs.Answers.{refusal_number}
 use Rattle.check_char.specs.Check.{error_numbers}
 use Rattle.text_output.specs.declared.Ground.{Ground}
 use Rattle.text_output.specs.declared.Ground.TheVariants.{Newline}
@@ -8,13 +9,13 @@ use Rattle.text_output.specs.declared.State.{State}
 use Rattle.text_output.specs.declared.State.TheVariants.{Ground as Grounded, Esc, Csi}
 use Rattle.text_output.specs.declared.Mode.{Mode}
 use Rattle.text_output.specs.declared.TextOutput.{TextOutput}
-use Rattle.text_output.specs.declared.Wrote.{Wrote}
-use Rattle.text_output.specs.declared.Wrote.TheVariants.{HandedOut, Refused, Abandon, Unwritable}
 use Rattle.text_output.specs.declared.Written.{Written}
 use Rattle.text_output.specs.declared.WrittenBytes.{WrittenBytes}
-use Rattle.text_output.specs.declared.Answer.{Answer}
-use Rattle.text_output.specs.declared.Answer.TheVariants.{Done, Refused as Denied, Abandon as Abandoned}
 use Rattle.text_output.specs.declared.Answered.{Answered}
+use Rattle.text_output.specs.declared.WriteError.{WriteError}
+use Rattle.text_output.specs.declared.WriteError.TheVariants.{Refused, Abandon, Unwritable}
+use Rattle.text_output.specs.declared.CloseError.{CloseError}
+use Rattle.text_output.specs.declared.CloseError.TheVariants.{Refused as Denied, Abandon as Abandoned}
 
 -- ---- the record
 -- how many characters an escape can hold: "the 64-character limit"
@@ -76,30 +77,29 @@ after_newline w = writer_with w.mode w.expect_starter w.kept (on_ground (machine
 -- ---- what a call answers, by this paper's numbers
 -- 0 and how many characters are handed out; or the refusal's number, for 4 the reason's number and its values too
 -- "a definition lists this paper's number and values for each case"
-abbrev pub wrote_numbers : Wrote → List ℕ
-wrote_numbers (HandedOut k) = 0 ∷ k ∷ []
-wrote_numbers (Refused n) = n ∷ []
-wrote_numbers (Abandon n) = n ∷ []
-wrote_numbers (Unwritable e) = 4 ∷ error_numbers e
+abbrev pub wrote_numbers : Result ℕ WriteError → List ℕ
+wrote_numbers (Ok k) = 0 ∷ k ∷ []
+wrote_numbers (Err (Refused e)) = refusal_number e ∷ []
+wrote_numbers (Err (Abandon e)) = refusal_number e ∷ []
+wrote_numbers (Err (Unwritable e)) = 4 ∷ error_numbers e
 
 -- whether the caller is told to abandon
-abbrev pub wrote_tells : Wrote → Bool
-wrote_tells (HandedOut k) = false
-wrote_tells (Refused n) = false
-wrote_tells (Abandon n) = true
-wrote_tells (Unwritable e) = true
+abbrev pub wrote_tells : Result ℕ WriteError → Bool
+wrote_tells (Ok k) = false
+wrote_tells (Err (Refused e)) = false
+wrote_tells (Err (Abandon e)) = true
+wrote_tells (Err (Unwritable e)) = true
 
--- no number where it succeeds, or the refusal's. No two answers may list alike: 0 alone is what `Refused(0)` lists. A write's success
--- lists 0 and a second number.
-abbrev pub answer_numbers : Answer → List ℕ
-answer_numbers Done = []
-answer_numbers (Denied n) = n ∷ []
-answer_numbers (Abandoned n) = n ∷ []
+-- no number where it succeeds, or the refusal's
+abbrev pub answer_numbers : Result ⊤ CloseError → List ℕ
+answer_numbers (Ok u) = []
+answer_numbers (Err (Denied e)) = refusal_number e ∷ []
+answer_numbers (Err (Abandoned e)) = refusal_number e ∷ []
 
-abbrev pub answer_tells : Answer → Bool
-answer_tells Done = false
-answer_tells (Denied n) = false
-answer_tells (Abandoned n) = true
+abbrev pub answer_tells : Result ⊤ CloseError → Bool
+answer_tells (Ok u) = false
+answer_tells (Err (Denied e)) = false
+answer_tells (Err (Abandoned e)) = true
 
 -- an answer's numbers, whether it tells the caller to abandon, and the record after the call
 pub record Given : Type 0 where

@@ -6,17 +6,18 @@
 #![tactic(auto)]
 
 ghost use Rattle.std.specs.Prelude.{◌≡◌, [], ◌∷◌};
+ghost use Rattle.common.specs.Answers.{refusal_number};
 ghost use Rattle.text_output.specs.declared.Mode.TheVariants.{Plain, Crlf, Color};
 ghost use Rattle.text_output.specs.declared.State.TheVariants.{Ground as Grounded};
 ghost use Rattle.text_output.specs.Writer.{machine_of, fresh, byte_order_mark, held_in, sound, answered_given, abandoned_by};
 ghost use Rattle.text_output.specs.Close.{expecting, flush_in, flush_of, close_in, close_of, abandon_of};
 
 use check_char::BasicTextError;
-use common::{AFTER_NO_NEWLINE, AFTER_NON_END, IN_ESCAPE, UNSOUND_WRITER};
+use common::Refusal;
 use scalars::BOM;
 
 // What stands last outside an escape.
-#[derive(Clone, Copy)]
+#[derive(Clone, Copy, Debug, PartialEq, Eq)]
 pub enum Ground {
     // A newline, or nothing yet.
     Newline,
@@ -27,7 +28,7 @@ pub enum Ground {
 }
 
 // Control-code and escape-sequence state machine.
-#[derive(Clone, Copy)]
+#[derive(Clone, Copy, Debug, PartialEq, Eq)]
 pub enum State {
     // Outside an escape.
     Ground(Ground),
@@ -38,7 +39,7 @@ pub enum State {
 }
 
 // What a step of a write asks for: `state_machine_char` of the Rust without its stores.
-#[derive(Clone, Copy)]
+#[derive(Clone, Copy, Debug, PartialEq, Eq)]
 pub enum Step {
     // The character goes out, and this stands last.
     Out(Ground),
@@ -55,7 +56,7 @@ pub enum Step {
 }
 
 // What a newline and ESC come to: `crlf_compatibility` and `ansi_color` of the Rust, of which no constructor sets both.
-#[derive(Clone, Copy)]
+#[derive(Clone, Copy, Debug, PartialEq, Eq)]
 pub enum Mode {
     Plain,
     // A newline goes out as 0D 0A.
@@ -86,23 +87,21 @@ pub struct Opened {
     pub writer: TextOutput,
 }
 
-// What a write answers.
-#[derive(Clone, Copy)]
-pub enum Wrote {
-    // The first so many places are handed out.
-    HandedOut(usize),
-    // Refused by this number; nothing changed.
-    Refused(u32),
-    // Refused by this number; the caller is to abandon the stream.
-    Abandon(u32),
-    // Refused by 4, for this reason; the caller is to abandon the stream.
+// Why a write is refused.
+#[derive(Clone, Copy, Debug, PartialEq, Eq)]
+pub enum WriteError {
+    // Nothing changed.
+    Refused(Refusal),
+    // The caller is to abandon the stream.
+    Abandon(Refusal),
+    // By 4, for this reason; the caller is to abandon the stream.
     Unwritable(BasicTextError),
 }
 
-// A write's answer, and the record after it.
+// A write's answer, the first so many places handed out, and the record after it.
 #[derive(Clone, Copy)]
 pub struct Written {
-    pub answer: Wrote,
+    pub answer: Result<usize, WriteError>,
     pub next: TextOutput,
 }
 
@@ -110,24 +109,23 @@ pub struct Written {
 #[derive(Clone, Copy)]
 pub struct WrittenBytes {
     pub used: usize,
-    pub answer: Wrote,
+    pub answer: Result<usize, WriteError>,
     pub next: TextOutput,
 }
 
-// What a flush or a close answers.
-#[derive(Clone, Copy)]
-pub enum Answer {
-    Done,
-    // Refused by this number; nothing changed.
-    Refused(u32),
-    // Refused by this number; the caller is to abandon the stream.
-    Abandon(u32),
+// Why a flush or a close is refused.
+#[derive(Clone, Copy, Debug, PartialEq, Eq)]
+pub enum CloseError {
+    // Nothing changed.
+    Refused(Refusal),
+    // The caller is to abandon the stream.
+    Abandon(Refusal),
 }
 
-// Its answer, and the record after it.
+// The answer of a flush or a close, and the record after it.
 #[derive(Clone, Copy)]
 pub struct Answered {
-    pub answer: Answer,
+    pub answer: Result<(), CloseError>,
     pub next: TextOutput,
 }
 
@@ -173,8 +171,10 @@ impl TextOutput {
         ensures bom { result.bom ≡ byte_order_mark }
         ensures writer { result.writer ≡ fresh Plain }
     {
-        let writer = TextOutput::in_mode(Mode::Plain);
-        Opened { bom: BOM, writer }
+        Opened {
+            bom: BOM,
+            writer: TextOutput::in_mode(Mode::Plain),
+        }
     }
 
     // A writer that lets color escapes through.
@@ -188,8 +188,7 @@ impl TextOutput {
     pub fn is_sound(self) -> bool
         ensures { result ≡ sound (machine_of self) }
     {
-        let state = self.state;
-        (self.held <= TextOutput::ESCAPE_SEQUENCE_SIZE) & held_in(state, self.held)
+        (self.held <= TextOutput::ESCAPE_SEQUENCE_SIZE) & held_in(self.state, self.held)
     }
 
     // The record that expects a start.
@@ -208,30 +207,31 @@ impl TextOutput {
         match state {
             State::Ground(ground) => self.flush_ground(ground),
             State::Esc => Answered {
-                answer: Answer::Refused(IN_ESCAPE),
+                answer: Err(CloseError::Refused(Refusal::InEscape)),
                 next: self,
             },
             State::Csi => Answered {
-                answer: Answer::Refused(IN_ESCAPE),
+                answer: Err(CloseError::Refused(Refusal::InEscape)),
                 next: self,
             },
         }
     }
 
+    #[tactic(auto, unfolding(crate::specs::Close::abandon_of))]
     fn flush_ground(self, kind: Ground) -> Answered
         ensures { answered_given result ≡ flush_in (Grounded kind) self }
     {
         match kind {
             Ground::Newline => Answered {
-                answer: Answer::Done,
+                answer: Ok(()),
                 next: self.expecting(),
             },
             Ground::ZwjOrPrepend => Answered {
-                answer: Answer::Abandon(AFTER_NON_END),
+                answer: Err(CloseError::Abandon(Refusal::AfterNonEnd)),
                 next: self.abandon(),
             },
             Ground::Other => Answered {
-                answer: Answer::Done,
+                answer: Ok(()),
                 next: self.expecting(),
             },
         }
@@ -239,15 +239,15 @@ impl TextOutput {
 
     // The stream is flushed: a start is expected again. Total: refuses 9, and then by the state 11 after a non-end, which puts the
     // writer after a newline, or 13 in an escape, which changes nothing.
+    #[tactic(auto, unfolding(crate::specs::Close::flush_of))]
     pub fn flush(self) -> Answered
         ensures { answered_given result ≡ flush_of self }
     {
         if self.is_sound() {
-            let state = self.state;
-            self.flush_in(state)
+            self.flush_in(self.state)
         } else {
             Answered {
-                answer: Answer::Refused(UNSOUND_WRITER),
+                answer: Err(CloseError::Refused(Refusal::UnsoundWriter)),
                 next: self,
             }
         }
@@ -259,8 +259,8 @@ impl TextOutput {
     {
         match state {
             State::Ground(ground) => self.close_ground(ground),
-            State::Esc => self.closed_by(IN_ESCAPE),
-            State::Csi => self.closed_by(IN_ESCAPE),
+            State::Esc => self.closed_by(Refusal::InEscape),
+            State::Csi => self.closed_by(Refusal::InEscape),
         }
     }
 
@@ -269,53 +269,50 @@ impl TextOutput {
     {
         match kind {
             Ground::Newline => Answered {
-                answer: Answer::Done,
+                answer: Ok(()),
                 next: self.expecting(),
             },
-            Ground::ZwjOrPrepend => self.closed_by(AFTER_NON_END),
-            Ground::Other => self.closed_by(AFTER_NO_NEWLINE),
+            Ground::ZwjOrPrepend => self.closed_by(Refusal::AfterNonEnd),
+            Ground::Other => self.closed_by(Refusal::AfterNoNewline),
         }
     }
 
-    // A close refused by this number.
-    fn closed_by(self, n: u32) -> Answered
-        ensures { answered_given result ≡ abandoned_by (n ∷ []) (expecting self) }
+    // A close refused for this.
+    #[tactic(auto, unfolding(crate::specs::Close::abandon_of))]
+    fn closed_by(self, why: Refusal) -> Answered
+        ensures { answered_given result ≡ abandoned_by (refusal_number why ∷ []) (expecting self) }
     {
         Answered {
-            answer: Answer::Abandon(n),
+            answer: Err(CloseError::Abandon(why)),
             next: self.expecting().abandon(),
         }
     }
 
     // The stream is closed. Total: refuses 9, and then by the state 11 after a non-end, 12 after another character that is no
     // newline, or 13 in an escape; these put the writer after a newline.
+    #[tactic(auto, unfolding(crate::specs::Close::close_of))]
     pub fn close(self) -> Answered
         ensures { answered_given result ≡ close_of self }
     {
         if self.is_sound() {
-            let state = self.state;
-            self.close_in(state)
+            self.close_in(self.state)
         } else {
             Answered {
-                answer: Answer::Refused(UNSOUND_WRITER),
+                answer: Err(CloseError::Refused(Refusal::UnsoundWriter)),
                 next: self,
             }
         }
     }
 
     // The stream is abandoned: the writer is after a newline and holds no escape. Total: refuses nothing, on any record.
+    #[tactic(auto, unfolding(crate::specs::Close::abandon_of))]
     pub fn abandon(self) -> Self
         ensures { result ≡ abandon_of self }
     {
-        let mode = self.mode;
-        let escape_sequence = self.escape_sequence;
-        Self {
-            mode,
-            expect_starter: self.expect_starter,
+        TextOutput {
             state: State::Ground(Ground::Newline),
-            kept: self.kept,
             held: 0,
-            escape_sequence,
+            ..self
         }
     }
 }

@@ -9,12 +9,12 @@ ghost use Rattle.text_output.specs.Writer.{answered_given};
 ghost use Rattle.text_output.specs.Close.{flush_of, close_of, abandon_of};
 ghost use Rattle.text_output_lent.specs.Lent.{leaves};
 
-use text_output::{Answer, Answered, TextOutput};
+use text_output::{Answered, CloseError, TextOutput};
 
 // Flushes the writer. Total: answers and leaves what `TextOutput::flush` does, on any record.
 // "'flush, close and abandon also exist over a lent record': Thin functions taking &mut writer record, calling the covered by-value
 // methods and storing the result."
-pub fn flush(w: &mut TextOutput) -> Answer
+pub fn flush(w: &mut TextOutput) -> Result<(), CloseError>
     ensures { leaves result w.new ≡ flush_of w.old }
 {
     let done = (*w).flush();
@@ -23,7 +23,7 @@ pub fn flush(w: &mut TextOutput) -> Answer
 }
 
 // Closes the writer. Total: answers and leaves what `TextOutput::close` does, on any record.
-pub fn close(w: &mut TextOutput) -> Answer
+pub fn close(w: &mut TextOutput) -> Result<(), CloseError>
     ensures { leaves result w.new ≡ close_of w.old }
 {
     let done = (*w).close();
