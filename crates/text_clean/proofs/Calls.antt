@@ -1,18 +1,15 @@
--- What `is_short`, the loop of `run`, and the calls lean on.
---     short_none, -small, -large          whether places are too few, by the code's three answers
+-- What the loop of `run` and the calls lean on.
 --     left_room, left_fits, moved, ran    the loop: what is left leads to the same end (`stretch`, proofs/Way.antt)
---     clean_no_page, clean_no_room, clean_room, clean_counts, cleaned      `clean`
---     finish_no_page, finish_no_room, counted, take_asks, close_asks, finished    `finish`
-use Prim.Native.Nat.{ℕ, zero, suc, ◌+◌, ◌-◌, ◌*◌, ◌/◌, ◌≤◌, ◌<◌}
+--     clean_room, clean_counts, cleaned      `clean`
+--     take_asks, close_asks, finished        `finish`
+use Prim.Native.Nat.{ℕ, zero, suc, ◌+◌, ◌≤◌, ◌<◌}
 use mathlib.Core.Bool.{Bool, true, false}
 use mathlib.Core.List.{List, [], ◌∷◌}
 use mathlib.Core.Path.{◌≡◌, refl, sym, ap, subst, ◌∙◌}
 use native.Mathlib.Omega.{arith}
-use borrow.Author.Tests.{lt-ltb, le-ltb, ltb-false}
-use lib.Dec.{ltb}
+use borrow.Author.Tests.{le-ltb, ltb-false}
 use lib.ListN.{length, drop, length-append}
 use lib.Seq.{sets, length-sets}
-use Rattle.common.proofs.Kit.{by_lt}
 use Rattle.common.proofs.Lists.{sets_append}
 use Rattle.scalars.specs.Utf8.{encode_all}
 use Rattle.scalars.proofs.Texts.{encode_append}
@@ -40,21 +37,6 @@ use Rattle.text_clean.proofs.Append.{tally_is, course_is, clean_way}
 use Rattle.text_clean.proofs.Room.{bit_le, passed_dropped, passed_lost, counts_fit, bytes_room, last_room}
 use Rattle.text_clean.proofs.Turns.{reached_is, Asks, Takes}
 use Rattle.std.specs.Prelude.{Ok}
-
--- ---- whether so many places are too few
-pub short_none : (n room : ℕ) → n ≡ 0 → false ≡ is_short n room
-short_none n room e = rw e (sym (le-ltb room 0 (omega arith)))
-
-pub short_small : (n room : ℕ) → (n ≡ 0 → ⊥) → room < 13 → true ≡ is_short n room
-short_small zero room h l = absurd (h refl)
-short_small (suc n) room h l = sym (lt-ltb room (3 * suc n + 13) (omega arith))
-
-pub short_large : (n room : ℕ) → (n ≡ 0 → ⊥) → 13 ≤ room → ltb ((room - 13) / 3) n ≡ is_short n room
-short_large zero room h l = absurd (h refl)
-short_large (suc n) room h l =
-    by_lt ((room - 13) / 3) (suc n)
-    (λ g. lt-ltb ((room - 13) / 3) (suc n) g ∙ sym (lt-ltb room (3 * suc n + 13) (omega arith)))
-    (λ g. le-ltb ((room - 13) / 3) (suc n) g ∙ sym (le-ltb room (3 * suc n + 13) (omega arith)))
 
 -- ---- the loop of `run`
 module _ (p : List ℕ) (o : Options) (lines : Bool) (bytes places₀ : List ℕ) (r₀ : Cleaner) (places : List ℕ) (r : Cleaner) (t : Tally) (k i : ℕ)
@@ -94,17 +76,7 @@ numbers_are : {a b c d e f g h i j : ℕ} → a ≡ b → c ≡ d → e ≡ f �
 numbers_are u v w x y = λ n. 0 ∷ u n ∷ v n ∷ w n ∷ x n ∷ y n ∷ []
 
 module _ (r : Cleaner) (p : List ℕ) (o : Options) (lines : Bool) (bs places : List ℕ) where
-  pub clean_no_page : accepted p ≡ false →
-      ◌≡◌ {A = Outcome} (record { numbers = 2 ∷ []; pending = pending_of r.pending; text = r.text; places = places }) (clean_of r p o lines bs places)
-  unfolding clean_of
-  clean_no_page h = simp h
-
   module _ (right : accepted p ≡ true) where
-    pub clean_no_room : is_short (length bs) (length places) ≡ true →
-        ◌≡◌ {A = Outcome} (record { numbers = 8 ∷ []; pending = pending_of r.pending; text = r.text; places = places }) (clean_of r p o lines bs places)
-    unfolding clean_of
-    clean_no_room h = simp (right, h)
-
     module _ (enough : is_short (length bs) (length places) ≡ false) where
       pub clean_room : length (gives p o lines (course_of r no_tally) bs) ≤ length places
       clean_room = omega (arith, bytes_room p o lines r no_tally bs, ltb-false (length places) (places_for_bytes (length bs)) enough)
@@ -135,17 +107,7 @@ module _ (r : Cleaner) (p : List ℕ) (o : Options) (lines : Bool) (bs places : 
 
 -- ---- `finish`
 module _ (r : Cleaner) (p : List ℕ) (o : Options) (eof : Bool) (places : List ℕ) where
-  pub finish_no_page : accepted p ≡ false →
-      ◌≡◌ {A = Outcome} (record { numbers = 2 ∷ []; pending = pending_of r.pending; text = r.text; places = places }) (finish_of r p o eof places)
-  unfolding finish_of
-  finish_no_page h = simp h
-
   module _ (right : accepted p ≡ true) where
-    pub finish_no_room : length places < 8 →
-        ◌≡◌ {A = Outcome} (record { numbers = 8 ∷ []; pending = pending_of r.pending; text = r.text; places = places }) (finish_of r p o eof places)
-    unfolding finish_of
-    finish_no_room h = simp (right, lt-ltb (length places) 8 h)
-
     -- the bytes cut off, the characters for them, what these come to, and the end of the text
     abbrev rest : List ℕ
     rest = pending_of r.pending
@@ -168,11 +130,6 @@ module _ (r : Cleaner) (p : List ℕ) (o : Options) (eof : Bool) (places : List 
 
     -- what is counted before the first character
     module _ (t q : Tally) (n : ℕ) (none : t ≡ no_tally) (size : n ≡ length rest) where
-      pub counted : Fits (replaced_more t n)
-      counted =
-          rw (none, size)
-          record { read = omega arith; replaced = omega (arith, pending_short r.pending); dropped = omega arith; lost = omega arith }
-
       module _ (tally : q ≡ replaced_more t n) (enough : 8 ≤ length places) (chars : Out) (out : chars_out chars ≡ cs) where
         first : q ≡ replaced_more no_tally (length rest)
         first = tally ∙ rw (none, size)

@@ -1,20 +1,17 @@
 -- Characters encoded into places, one run after the other: what is asked before, and what is known after.
---     asks_one ..      what `write_utf8` asks and leaves, as of a list of one character
 --     asks_first       room for joined characters is room for the first of them
 --     asks_then        and, once these are stored, for the others
 --     stored_then      storing them one run after the other stores all
 use Prim.Native.Nat.{ℕ, ◌+◌, ◌≤◌}
-use mathlib.Core.Path.{◌≡◌, refl, sym, ◌∙◌}
+use mathlib.Core.Path.{◌≡◌, sym, ◌∙◌}
 use mathlib.Core.Bool.{true}
-use mathlib.Core.List.{List, [], ◌∷◌, ◌++◌, append-nil}
+use mathlib.Core.List.{List, ◌++◌}
 use native.Mathlib.Omega.{arith}
-use native.Mathlib.Nat.{add-zero}
 use lib.ListN.{length, length-append}
 use lib.Seq.{sets, length-sets}
-use Rattle.common.proofs.Kit.{both_true}
 use Rattle.common.proofs.Lists.{sets_append}
-use Rattle.scalars.specs.Chars.{is_char, are_chars}
-use Rattle.scalars.specs.Utf8.{encode_of, encode_all}
+use Rattle.scalars.specs.Chars.{are_chars}
+use Rattle.scalars.specs.Utf8.{encode_all}
 use Rattle.scalars.proofs.Texts.{encode_append, chars_parts}
 
 -- cs are characters, and there is room for them in l from `at` on
@@ -25,21 +22,6 @@ Asks cs l at = (are_chars cs ≡ true) × (at + length (encode_all cs) ≤ lengt
 abbrev pub Stored : List ℕ → List ℕ → ℕ → ℕ → List ℕ → Type 0
 Stored cs l at next m = (next ≡ at + length (encode_all cs)) × (m ≡ sets l at (encode_all cs))
 
--- ---- one character, as `write_utf8` has it, and none
-module _ (c : ℕ) (l : List ℕ) (at : ℕ) where
-  encode_one : encode_all (c ∷ []) ≡ encode_of c
-  encode_one = append-nil (encode_of c)
-
-  pub asks_one : Asks (c ∷ []) l at → (is_char c ≡ true) × (at + length (encode_of c) ≤ length l)
-  asks_one a = ((both_true (is_char c) true a.0).0, rw encode_one at a.1)
-
-  pub stored_one : (next : ℕ) (m : List ℕ) → (next ≡ at + length (encode_of c)) × (m ≡ sets l at (encode_of c)) → Stored (c ∷ []) l at next m
-  stored_one next m s = rw encode_one s
-
-pub stored_none : (l : List ℕ) (at : ℕ) → Stored [] l at at l
-stored_none l at = (sym (add-zero at), refl)
-
--- ---- two runs
 module _ (cs ds l : List ℕ) (at : ℕ) where
   size : length (encode_all (cs ++ ds)) ≡ length (encode_all cs) + length (encode_all ds)
   size = rw encode_append (length-append (encode_all cs) (encode_all ds))

@@ -1,19 +1,19 @@
 -- One turn over bytes: the characters that a byte puts out (`take_out`, `take_byte`), and the four ways of `advance`.
 -- Idea: whole characters, where nothing is pending, are decoded as they stand, so a turn over them is a run of characters. What a turn
 -- needs of places and counts is part of what all that is left needs.
---     Asks, Takes                   what `take_out` asks of characters and answers; none-, one-, first-, second-, two-: by how many
---     byte_counts, -asks, -ran      one byte, whatever is pending
+--     Asks, Takes                   what `take_out` asks of characters and answers; first-, second-, two-: of two
+--     byte_chars                    what one byte puts out is characters
 --     Whole                         the bytes of a turn are whole characters: what these come to is what the bytes come to
 --     plain-, line-, char-, byte-   the four ways of `advance`: what each asks of places and counts, and where it leads (`-moves`)
 --     then_room_lem, -fits, moves_then  a turn behind a turn: what it asks is what is left, and the two are one
---     behind_asks, -moves           so a line end behind plain characters (`take_line`); line_taken, -none, -past: its answers
+--     behind_asks, -moves           so a line end behind plain characters (`take_line`)
 use Prim.Native.Nat.{ℕ, suc, ◌+◌, ◌-◌, ◌≤◌, ◌<◌}
 use mathlib.Core.Bool.{Bool, true, false, ◌&&◌, or-true}
 use mathlib.Core.List.{List, [], ◌∷◌, ◌++◌, append-nil}
 use mathlib.Core.Path.{◌≡◌, refl, sym, ap, subst, ◌∙◌}
 use native.Mathlib.Numerals.{add-one}
 use native.Mathlib.Omega.{arith}
-use borrow.Author.Tests.{eqb-true, lt-ltb, le-ltb, ltb-true}
+use borrow.Author.Tests.{eqb-true, ltb-true}
 use lib.Dec.{eqb, ltb}
 use lib.ListN.{length, get_or, set, drop, length-append, length-drop, get_or-eq_default}
 use lib.Seq.{sets, length-sets, drop-cons}
@@ -28,7 +28,7 @@ use Rattle.stretch.specs.Stretch.{part}
 use Rattle.stretch.specs.Plain.{Plain, Gap}
 use Rattle.stretch.proofs.Parts.{cut, part_length, part_at, part_one}
 use Rattle.utf8_lossy.specs.declared.Out.{Out}
-use Rattle.utf8_lossy.specs.declared.Out.TheVariants.{Nothing, One, Two}
+use Rattle.utf8_lossy.specs.declared.Out.TheVariants.{Two}
 use Rattle.utf8_lossy.specs.declared.Pending.TheVariants.{Nothing as NoBytes}
 use Rattle.utf8_lossy.specs.Machine.{Turn, step_of, outs_of, rest_of, replaced_of}
 use Rattle.utf8_lossy.specs.Decode.{chars_out}
@@ -46,8 +46,8 @@ use Rattle.text_clean.specs.declared.Cleaner.{Cleaner}
 use Rattle.text_clean.specs.declared.Moved.{Moved}
 use Rattle.text_clean.specs.declared.Ran.{Ran}
 use Rattle.text_clean.specs.Text.{Passed, take_of, joined, passed_of}
-use Rattle.text_clean.specs.Inner.{Fits, tallied, replaced_more, taken_by, ready_for, passed_text, ended_text, PlainRun, line_end_at, LineAsks, line_moved, line_stored, is_nothing, Course, course_of, passes, gives, leads, Reached, ran_in, ran_by, Moves}
-use Rattle.text_clean.proofs.Append.{tally_is, course_is, passed_one, passes_one, gives_append, leads_append, fits_first}
+use Rattle.text_clean.specs.Inner.{Fits, tallied, taken_by, ready_for, passed_text, ended_text, PlainRun, line_end_at, LineAsks, line_moved, line_stored, is_nothing, Course, course_of, passes, gives, leads, Reached, ran_in, ran_by, Moves}
+use Rattle.text_clean.proofs.Append.{tally_is, course_is, passed_one, gives_append, leads_append, fits_first}
 use Rattle.text_clean.proofs.plain.Runs.{part_join}
 use Rattle.text_clean.proofs.Ready.{plainly, ready_for_lem, ready_ground, plain_passed, plain_chars, line_end, newline_passed, crlf_passed}
 use Rattle.std.specs.Prelude.{Some}
@@ -81,28 +81,6 @@ module _ (p : List ℕ) (o : Options) (lines : Bool) (t : Text) (k : ℕ) (tally
 
   abbrev pub TakesOne : ℕ → Taken → List ℕ → Type 0
   TakesOne c r after = (r ≡ taken_by k tally 1 (take_of p o lines t c)) × (after ≡ sets places k (encode_all (take_of p o lines t c).out))
-
-  pub none_takes : (x : Out) → x ≡ Nothing → Takes (chars_out x) (record { at = k; text = t; tally = tally }) places
-  none_takes x e =
-      subst (λ (y : Out). Takes (chars_out y) (record { at = k; text = t; tally = tally }) places) (sym e)
-      (taken_is (omega arith) refl (tally_is (omega arith) refl (omega arith) (omega arith)), refl)
-
-  pub one_asks : (x : Out) (c : ℕ) → x ≡ One c → Asks (chars_out x) → AsksOne c
-  one_asks x c e a =
-      let b = subst (λ (y : Out). Asks (chars_out y)) e a in
-      let q = passed_one p o lines t c in (
-        (both_true (is_char c) true b.chars).0,
-        (
-          subst (λ (y : Passed). k + length (encode_all y.out) ≤ length places) q b.room,
-          subst (λ (y : Passed). Fits (taken_by k tally 1 y).tally) q b.fits,
-        ),
-      )
-
-  pub one_takes : (x : Out) (c : ℕ) → x ≡ One c → (r : Taken) (after : List ℕ) → TakesOne c r after → Takes (chars_out x) r after
-  one_takes x c e r after h =
-      let q = passed_one p o lines t c in
-      subst (λ (y : Out). Takes (chars_out y) r after) (sym e)
-      (h.0 ∙ ap (taken_by k tally 1) (sym q), h.1 ∙ ap (λ (y : Passed). sets places k (encode_all y.out)) (sym q))
 
 module _ (p : List ℕ) (o : Options) (lines : Bool) (t : Text) (k : ℕ) (tally : Tally) (places : List ℕ) (x : Out) (c d : ℕ) (e : x ≡ Two c d) where
   abbrev u : Passed
@@ -178,56 +156,9 @@ module _ (p : List ℕ) (o : Options) (lines : Bool) (t : Text) (k : ℕ) (tally
       ))
 
 -- ---- one byte
-module _ (p : List ℕ) (o : Options) (lines : Bool) (s : Course) (b k : ℕ) (x : Turn) (e : x ≡ step_of s.pending b) where
-  -- what it puts out comes to this
-  abbrev y : Passed
-  y = passed_of p o lines s.text x.out
-
-  byte_passes : passes p o lines s (b ∷ []) ≡ y
-  byte_passes = passes_one p o lines s b ∙ ap (λ (z : Turn). passed_of p o lines s.text z.out) (sym e)
-
-  byte_gives : gives p o lines s (b ∷ []) ≡ encode_all y.out
-  byte_gives = ap (λ (z : Passed). encode_all z.out) byte_passes
-
-  byte_leads : leads p o lines s (b ∷ [])
-      ≡ record { pending = x.pending; text = y.next; tally = tallied (replaced_more s.tally x.replaced) (length x.out) y.dropped y.lost }
-  byte_leads =
-      let q = byte_passes in
-      let n = ap length (append-nil (step_of s.pending b).out) ∙ ap (λ (z : Turn). length z.out) (sym e) in
-      let m = ap (λ (z : Turn). z.replaced) e in
-      course_is (ap (λ (z : Turn). z.pending) (sym e)) (ap (λ (z : Passed). z.next) q)
-      (tally_is (omega (arith, n)) (omega (arith, m)) (omega (arith, ap (λ (z : Passed). z.dropped) q)) (omega (arith, ap (λ (z : Passed). z.lost) q)))
-
-  byte_chars : are_chars x.out ≡ true
-  byte_chars = rw e (rw append-nil at (are_chars_lem s.pending (b ∷ [])))
-
-  module _ (places : List ℕ) (room : k + length (gives p o lines s (b ∷ [])) ≤ length places) (fits : Fits (leads p o lines s (b ∷ [])).tally) where
-    abbrev fitting : Fits (tallied (replaced_more s.tally x.replaced) (length x.out) y.dropped y.lost)
-    fitting = subst (λ (z : Course). Fits z.tally) byte_leads fits
-
-    pub byte_counts : Fits (replaced_more s.tally x.replaced)
-    byte_counts =
-        let f = fitting in
-        record {
-          read = omega (arith, f.read);
-          replaced = f.replaced;
-          dropped = omega (arith, f.dropped);
-          lost = omega (arith, f.lost);
-        }
-
-    pub byte_asks : (q : Tally) → q ≡ replaced_more s.tally x.replaced → Asks p o lines s.text k q places x.out
-    byte_asks q h =
-        rw h record { chars = byte_chars; room = omega (arith, room, ap length byte_gives); fits = fitting }
-
-  pub byte_ran : (q : Tally) → q ≡ replaced_more s.tally x.replaced → (places : List ℕ) (r : Taken) (after : List ℕ) →
-      Takes p o lines s.text k q places x.out r after →
-      (◌≡◌ {A = Reached} (record { written = r.at; course = record { pending = x.pending; text = r.text; tally = r.tally } })
-      (ran_by p o lines k s (b ∷ [])))
-      × (after ≡ sets places k (gives p o lines s (b ∷ [])))
-  byte_ran q h places r after g = (
-    rw (g.0, h) (reached_is (ap (λ (l : List ℕ). k + length l) (sym byte_gives)) (sym byte_leads)),
-    g.1 ∙ ap (sets places k) (sym byte_gives),
-  )
+-- what it puts out is characters
+pub byte_chars : (p : List ℕ) (b : ℕ) (x : Turn) → x ≡ step_of p b → are_chars x.out ≡ true
+byte_chars p b x e = rw e (rw append-nil at (are_chars_lem p (b ∷ [])))
 
 newline_bytes : encode_all (0x0A ∷ []) ≡ 0x0A ∷ []
 newline_bytes = rw (row1 0x0A (omega arith))
@@ -552,23 +483,3 @@ module _ (p : List ℕ) (o : Options) (lines : Bool) (s : Course) (bytes : List 
     pub behind_moves : (r : Moved) → r ≡ line_moved (line_end_at bytes m.at) m.next.text lines m.at m.gap m.written m.tally →
         (after : List ℕ) → after ≡ line_stored (line_end_at bytes m.at) mid m.written → Moves p o lines s bytes i out k r after
     behind_moves r q after a = subst (λ (z : Moved). Moves p o lines s bytes i out k z after) (sym q) (behind_by _ refl after a)
-
--- what `take_line` answers and leaves
-module _ (t : Text) (lines : Bool) (bytes : List ℕ) (at : ℕ) (gap : Range) (out : List ℕ) (k : ℕ) (tally : Tally) where
-  abbrev Lined : ℕ → Moved → List ℕ → Type 0
-  Lined w r after = (r ≡ line_moved w t lines at gap k tally) × (after ≡ line_stored w out k)
-
-  lined : (w : ℕ) → w ≡ line_end_at bytes at → (r : Moved) (after : List ℕ) → Lined w r after → Lined (line_end_at bytes at) r after
-  lined w e r after = subst (λ (x : ℕ). Lined w r after → Lined x r after) e (λ h. h)
-
-  pub line_taken : (w : ℕ) → w ≡ line_end_at bytes at → 0 < w → (next : Text) → next ≡ ended_text t lines → (q : Tally) → q ≡ tallied tally w 0 0 →
-      Lined (line_end_at bytes at) (record { at = at + w; written = k + 1; next = record { pending = NoBytes; text = next }; tally = q; gap = gap }) (set out k 0x0A)
-  line_taken w e some next f q g = lined w e _ _ (rw (lt-ltb 0 w some, f, g) (refl, refl))
-
-  pub line_none : (w : ℕ) → w ≡ line_end_at bytes at → w ≤ 0 →
-      Lined (line_end_at bytes at) (record { at = at; written = k; next = record { pending = NoBytes; text = t }; tally = tally; gap = gap }) out
-  line_none w e none = lined w e _ _ (rw (le-ltb 0 w none) (refl, refl))
-
-  pub line_past : length bytes ≤ at →
-      Lined (line_end_at bytes at) (record { at = at; written = k; next = record { pending = NoBytes; text = t }; tally = tally; gap = gap }) out
-  line_past past = line_none 0 (sym (past_end bytes at past)) (omega arith)

@@ -80,17 +80,6 @@ struct Ran {
     tally: Tally,
 }
 
-fn no_tally() -> Tally
-    ensures { result ≡ no_tally }
-{
-    Tally {
-        read: 0,
-        replaced: 0,
-        dropped: 0,
-        lost: 0,
-    }
-}
-
 // Characters that were read and pass as they stand. Inner: asks that the count fits.
 fn tally_read(t: Tally, n: usize) -> Tally
     requires { Fits (tallied t n 0 0) }
@@ -98,9 +87,7 @@ fn tally_read(t: Tally, n: usize) -> Tally
 {
     Tally {
         read: t.read + n,
-        replaced: t.replaced,
-        dropped: t.dropped,
-        lost: t.lost,
+        ..t
     }
 }
 
@@ -110,10 +97,8 @@ fn tally_replaced(t: Tally, n: usize) -> Tally
     ensures { result ≡ replaced_more t n }
 {
     Tally {
-        read: t.read,
         replaced: t.replaced + n,
-        dropped: t.dropped,
-        lost: t.lost,
+        ..t
     }
 }
 
@@ -133,16 +118,12 @@ fn count_all(written: usize, t: Tally) -> Counts
 fn is_nothing(pending: Pending) -> bool
     ensures { result ≡ is_nothing (pending_of pending) }
 {
-    match pending {
-        Pending::Nothing => true,
-        Pending::One(_) => false,
-        Pending::Two(_, _) => false,
-        Pending::Three(_, _, _) => false,
-    }
+    matches!(pending, Pending::Nothing)
 }
 
 // The characters that one byte puts out, none to two. Inner: asks for an accepted page, for characters, for room, and that the counts
 // fit.
+#[tactic(auto, using(common::proofs::Lists::sets_append, scalars::proofs::Texts::encode_append))]
 fn take_out(
     text: Text,
     page: &[u32],
@@ -165,9 +146,9 @@ fn take_out(
         Out::One(c) => text.take(page, options, lines, c, out, k, tally),
         Out::Two(c, d) => {
             let first = text.take(page, options, lines, c, out, k, tally);
-            let then = first.text;
-            let sofar = first.tally;
-            then.take(page, options, lines, d, out, first.at, sofar)
+            first
+                .text
+                .take(page, options, lines, d, out, first.at, first.tally)
         }
     }
 }
@@ -191,14 +172,13 @@ fn take_line(
     if at < bytes.len() {
         let width = line_end(bytes, at);
         if 0 < width {
-            out[k] = 0xa;
-            let next = text.ended(lines);
+            out[k] = b'\n';
             return Moved {
                 at: at + width,
                 written: k + 1,
                 next: Cleaner {
                     pending: Pending::Nothing,
-                    text: next,
+                    text: text.ended(lines),
                 },
                 tally: tally_read(tally, width),
                 gap,
@@ -246,22 +226,16 @@ impl Cleaner {
         ensures ran { ran_in result ≡ ran_by page.now options lines k (course_of self tally) (b ∷ []) }
         ensures places { out.new ≡ sets out.old k (gives page.now options lines (course_of self tally) (b ∷ [])) }
     {
-        let pending = self.pending;
-        let text = self.text;
-        let stepped = pending.step(b);
-        let chars = stepped.out;
+        let stepped = self.pending.step(b);
         let sofar = tally_replaced(tally, stepped.replaced);
-        let taken = take_out(text, page, options, lines, chars, out, k, sofar);
-        let rest = stepped.next;
-        let then = taken.text;
-        let after = taken.tally;
+        let taken = take_out(self.text, page, options, lines, stepped.out, out, k, sofar);
         Ran {
             written: taken.at,
             next: Cleaner {
-                pending: rest,
-                text: then,
+                pending: stepped.next,
+                text: taken.text,
             },
-            tally: after,
+            tally: taken.tally,
         }
     }
 
@@ -287,9 +261,8 @@ impl Cleaner {
         requires fits { Fits (leads page.now options lines (course_of self tally) (drop i bytes.now)).tally }
         ensures { Moves page.now options lines (course_of self tally) bytes.now i out.old k result out.new }
     {
-        let pending = self.pending;
         let text = self.text;
-        if is_nothing(pending) {
+        if is_nothing(self.pending) {
             if text.is_ready(bytes[i]) {
                 let run = plain_run(bytes, i, gap);
                 let end = run.at;
@@ -301,14 +274,13 @@ impl Cleaner {
                 }
                 let width = line_end(bytes, i);
                 if 0 < width {
-                    out[k] = 0xa;
-                    let next = text.ended(lines);
+                    out[k] = b'\n';
                     return Moved {
                         at: i + width,
                         written: k + 1,
                         next: Cleaner {
                             pending: Pending::Nothing,
-                            text: next,
+                            text: text.ended(lines),
                         },
                         tally: tally_read(tally, width),
                         gap,
@@ -318,31 +290,26 @@ impl Cleaner {
             match utf8_step(bytes, i) {
                 Some((c, after)) => {
                     let taken = text.take(page, options, lines, c, out, k, tally);
-                    let next = taken.text;
-                    let sofar = taken.tally;
-                    let near = next_gap(gap, c);
                     return Moved {
                         at: after,
                         written: taken.at,
                         next: Cleaner {
                             pending: Pending::Nothing,
-                            text: next,
+                            text: taken.text,
                         },
-                        tally: sofar,
-                        gap: near,
+                        tally: taken.tally,
+                        gap: next_gap(gap, c),
                     };
                 }
                 None => {}
             }
         }
         let ran = self.take_byte(page, options, lines, bytes[i], out, k, tally);
-        let next = ran.next;
-        let sofar = ran.tally;
         Moved {
             at: i + 1,
             written: ran.written,
-            next,
-            tally: sofar,
+            next: ran.next,
+            tally: ran.tally,
             gap,
         }
     }
@@ -356,29 +323,38 @@ impl Cleaner {
         ensures ran { ran_in result ≡ ran_by page.now options lines 0 (course_of self no_tally) bytes.now }
         ensures places { out.new ≡ sets out.old 0 (gives page.now options lines (course_of self no_tally) bytes.now) }
     {
-        let mut r = self;
-        let mut tally = no_tally();
-        let mut gap = first_gap();
-        let mut k = 0;
-        let mut i = 0;
-        while i < bytes.len() {
-            let moved = r.advance(page, options, lines, bytes, i, gap, out, k, tally);
-            i = moved.at;
-            k = moved.written;
-            r = moved.next;
-            tally = moved.tally;
-            gap = moved.gap;
+        // No `for`: each turn takes as many bytes as it answers.
+        let mut moved = Moved {
+            at: 0,
+            written: 0,
+            next: self,
+            tally: Tally::default(),
+            gap: first_gap(),
+        };
+        while moved.at < bytes.len() {
+            moved = moved.next.advance(
+                page,
+                options,
+                lines,
+                bytes,
+                moved.at,
+                moved.gap,
+                out,
+                moved.written,
+                moved.tally,
+            );
         }
         Ran {
-            written: k,
-            next: r,
-            tally,
+            written: moved.written,
+            next: moved.next,
+            tally: moved.tally,
         }
     }
 
     // Takes a chunk of bytes, and writes the cleaned bytes to the first places. With `lines` each line, up to a 0A and with it, is a
     // text of its own. Total: refuses 2, then 8 under 3 × n + 13 places for n bytes, and then leaves record and places. An empty chunk
     // needs no place.
+    #[tactic(auto, unfolding(crate::specs::Clean::clean_of))]
     pub fn clean(
         self,
         page: &[u32],
@@ -402,16 +378,15 @@ impl Cleaner {
             };
         }
         let ran = self.run(page, options, lines, bytes, out);
-        let next = ran.next;
-        let tally = ran.tally;
         Cleaned {
-            answer: Ok(count_all(ran.written, tally)),
-            next,
+            answer: Ok(count_all(ran.written, ran.tally)),
+            next: ran.next,
         }
     }
 
     // The text ends, or is pushed: bytes of a character cut off give U+FFFD, and what is pending of the text goes out, with what ends a
     // text. Total: refuses 2, then 8 under 8 places, and then leaves record and places.
+    #[tactic(auto, using(utf8_lossy::proofs::Room::finish_chars_lem), unfolding(crate::specs::Clean::finish_of))]
     pub fn finish(self, page: &[u32], options: Options, eof: bool, out: &mut [u8]) -> Cleaned
         ensures { outcome result out.new ≡ finish_of self page.now options eof out.old }
     {
@@ -427,21 +402,23 @@ impl Cleaner {
                 next: self,
             };
         }
-        let pending = self.pending;
-        let text = self.text;
-        let chars = pending.finish();
-        let sofar = tally_replaced(no_tally(), pending.len());
-        let taken = take_out(text, page, options, false, chars, out, 0, sofar);
-        let last = taken.text;
-        let tally = taken.tally;
-        let closed = last.close(eof, out, taken.at, tally);
-        let next = closed.text;
-        let all = closed.tally;
+        let sofar = tally_replaced(Tally::default(), self.pending.len());
+        let taken = take_out(
+            self.text,
+            page,
+            options,
+            false,
+            self.pending.finish(),
+            out,
+            0,
+            sofar,
+        );
+        let closed = taken.text.close(eof, out, taken.at, taken.tally);
         Cleaned {
-            answer: Ok(count_all(closed.at, all)),
+            answer: Ok(count_all(closed.at, closed.tally)),
             next: Cleaner {
                 pending: Pending::Nothing,
-                text: next,
+                text: closed.text,
             },
         }
     }
@@ -451,11 +428,5 @@ impl Cleaner {
 fn is_short(n: usize, room: usize) -> bool
     ensures { result ≡ is_short n room }
 {
-    if n == 0 {
-        return false;
-    }
-    if room < 13 {
-        return true;
-    }
-    (room - 13) / 3 < n
+    n != 0 && (room < 13 || (room - 13) / 3 < n)
 }

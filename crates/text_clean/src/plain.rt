@@ -1,7 +1,8 @@
 // Runs of plain characters as bytes, most of any file: tab, 20 to 7E, and encodings of the characters of a gap (crate `stretch`); and line
 // ends. The end of a run is found by blocks of 16, and all of it is copied at once. All of it is inner.
 // No contract says that a run is the longest: where a block ends, and which gap a caller guesses, is a matter of time alone.
-ghost use Rattle.std.specs.Prelude.{◌≡◌, true, ◌+◌, ◌≤◌, ◌<◌, length};
+ghost use Rattle.std.specs.Prelude.{◌≡◌, ◌+◌, ◌≤◌, ◌<◌, length};
+ghost use Rattle.std.specs.List.{list_all};
 ghost use Rattle.std.proofs.lemmas.List.Edits.{sets};
 ghost use Rattle.stretch.specs.Plain.{Gap};
 ghost use Rattle.text_clean.specs.Inner.{plain_byte, PlainBytes, PlainTo, PlainRun, line_end_at};
@@ -18,22 +19,20 @@ pub struct PlainEnd {
 }
 
 // Tab, and 20 to 7E.
+#[tactic(auto, unfolding(crate::specs::Inner::plain_byte))]
 fn is_plain(b: u8) -> bool
     ensures { result ≡ plain_byte b }
 {
-    (0x20 <= b) & (b <= 0x7e) | (b == 9)
+    matches!(b, b'\t' | 0x20..=0x7e)
 }
 
-// Whether the 16 bytes from a place on are plain. The loop has no early exit, so that it can be vectorised.
-fn block(bytes: &[u8], at: usize) -> bool
-    requires { at + 16 ≤ length bytes.now }
-    ensures { result ≡ true → PlainBytes bytes.now at (at + 16) }
+// Whether all bytes of a block are plain. The loop has no early exit, so that it can be vectorised.
+fn is_plain_block(block: &[u8]) -> bool
+    ensures { result ≡ list_all plain_byte block.now }
 {
     let mut good = true;
-    let mut j = 0;
-    while j < 16 {
-        good = good & is_plain(bytes[at + j]);
-        j += 1;
+    for &b in block {
+        good &= is_plain(b);
     }
     good
 }
@@ -43,25 +42,17 @@ fn ascii_end(bytes: &[u8], from: usize) -> usize
     requires { from ≤ length bytes.now }
     ensures { PlainTo bytes.now from result }
 {
-    if from < bytes.len() {
-        if 0x80 <= bytes[from] {
-            return from;
-        }
+    if from < bytes.len() && !bytes[from].is_ascii() {
+        return from;
     }
-    let mut i = from;
-    while 16 <= bytes.len() - i {
-        if !block(bytes, i) {
+    let mut at = from;
+    for block in bytes[from..].chunks_exact(16) {
+        if !is_plain_block(block) {
             break;
         }
-        i += 16;
+        at += 16;
     }
-    while i < bytes.len() {
-        if !is_plain(bytes[i]) {
-            return i;
-        }
-        i += 1;
-    }
-    i
+    at + bytes[at..].iter().take_while(|&&b| is_plain(b)).count()
 }
 
 // A run of plain characters from a place on. Inner: asks for a place of the bytes, and for a gap.
@@ -76,8 +67,8 @@ pub fn plain_run(bytes: &[u8], from: usize, gap: Range) -> PlainEnd
     loop {
         let end = ascii_end(bytes, at);
         if at < end {
-            chars = chars + (end - at);
-            last = bytes[end - 1] as u32;
+            chars += end - at;
+            last = u32::from(bytes[end - 1]);
             at = end;
         }
         let Some((c, next)) = utf8_step(bytes, at) else {
@@ -97,25 +88,17 @@ pub fn line_end(bytes: &[u8], i: usize) -> usize
     requires { i < length bytes.now }
     ensures { result ≡ line_end_at bytes.now i }
 {
-    if bytes[i] == 0xa {
-        return 1;
+    match &bytes[i..] {
+        [b'\n', ..] => 1,
+        [b'\r', b'\n', ..] => 2,
+        _ => 0,
     }
-    if (bytes[i] == 0xd) & (i + 1 < bytes.len()) {
-        if bytes[i + 1] == 0xa {
-            return 2;
-        }
-    }
-    0
 }
 
-// Stores bytes from a place on. Inner: asks for room. What is left of them, stored from the place at hand on, leads to the same end.
+// Stores bytes from a place on. Inner: asks for room.
 pub fn copy_run(run: &[u8], out: &mut [u8], at: usize)
     requires { at + length run.now ≤ length out.old }
     ensures { out.new ≡ sets out.old at run.now }
 {
-    let mut j = 0;
-    while j < run.len() {
-        out[at + j] = run[j];
-        j += 1;
-    }
+    out[at..at + run.len()].copy_from_slice(run);
 }

@@ -22,6 +22,7 @@ pub fn put_lead(lead: Option<u32>, out: &mut [u8], at: usize) -> usize
     }
 }
 
+#[tactic(auto, using(common::proofs::Lists::sets_append))]
 fn put_replaced(image: Replaced, out: &mut [u8], at: usize) -> usize
     requires image_value { are_chars (chars image) ≡ true }
     requires image_in_bounds { at + length (encode_all (chars image)) ≤ length out.old }

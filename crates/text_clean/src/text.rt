@@ -22,7 +22,7 @@ pub struct Text {
 }
 
 // What is counted so far: characters read, bytes that U+FFFD stands for, characters dropped, line ends lost.
-#[derive(Clone, Copy)]
+#[derive(Clone, Copy, Default)]
 pub struct Tally {
     pub read: usize,
     pub replaced: usize,
@@ -38,53 +38,26 @@ pub struct Taken {
     pub tally: Tally,
 }
 
-fn one(b: bool) -> usize
-    ensures { result ≡ bit b }
-{
-    if b { 1 } else { 0 }
-}
-
 // Whether what is pending is an escape.
 fn is_escape(state: State) -> bool
     ensures { result ≡ escaping state }
 {
-    match state {
-        State::Ground(_) => false,
-        State::Cr => false,
-        State::Ff => false,
-        State::Esc => true,
-        State::CsiStart => true,
-        State::Csi => true,
-        State::Osc => true,
-        State::Linux => true,
-    }
+    !matches!(state, State::Ground(_) | State::Cr | State::Ff)
 }
 
 // Whether the character goes on with what is pending.
 fn is_part(left: Left) -> bool
     ensures { result ≡ goes_on left }
 {
-    match left {
-        Left::Part(_) => true,
-        Left::Newline => false,
-        Left::Goes => false,
-        Left::Ends => false,
-        Left::After(_) => false,
-        Left::Dropped => false,
-    }
+    matches!(left, Left::Part(_))
 }
 
 // Whether c, met in this state, is part of an escape: it begins one, or goes on with one.
+#[tactic(auto, unfolding(crate::specs::Text::in_escape))]
 fn in_escape(state: State, c: u32) -> bool
     ensures { result ≡ in_escape state c }
 {
-    if c == ESC {
-        return true;
-    }
-    if is_escape(state) {
-        return is_part(leave(state, c));
-    }
-    false
+    c == ESC || is_escape(state) && is_part(leave(state, c))
 }
 
 // A line end of one character, but for 0D, that an escape would lose: with `lines` 0A ends its line nevertheless.
@@ -98,13 +71,9 @@ fn is_losable(options: Options, lines: bool, c: u32) -> bool
 fn begin(input: TextInput) -> TextInput
     ensures { result ≡ begun input }
 {
-    let state = input.state;
     TextInput {
-        state,
-        expect_starter: input.expect_starter,
         at_start: false,
-        last: input.last,
-        count: input.count,
+        ..input
     }
 }
 
@@ -115,9 +84,9 @@ fn tally_char(t: Tally, dropped: usize, lost: usize) -> Tally
 {
     Tally {
         read: t.read + 1,
-        replaced: t.replaced,
         dropped: t.dropped + dropped,
         lost: t.lost + lost,
+        ..t
     }
 }
 
@@ -127,10 +96,8 @@ fn tally_lost(t: Tally, lost: usize) -> Tally
     ensures { result ≡ tallied t 0 0 lost }
 {
     Tally {
-        read: t.read,
-        replaced: t.replaced,
-        dropped: t.dropped,
         lost: t.lost + lost,
+        ..t
     }
 }
 
@@ -151,22 +118,20 @@ impl Text {
         ensures { result ≡ ready_for self b }
     {
         let input = self.input;
-        let state = input.state;
-        is_ground(state) & !self.cr & ((b < 0x80) | !input.expect_starter & !input.at_start)
+        is_ground(input.state) & !self.cr & (b.is_ascii() | !input.expect_starter & !input.at_start)
     }
 
     // The text after plain characters, by the last of them.
     pub fn passed(self, c: u32) -> Self
         ensures { result ≡ passed_text self c }
     {
-        let input = self.input;
         Self {
             input: TextInput {
                 state: State::Ground(false),
                 expect_starter: false,
                 at_start: false,
                 last: c,
-                count: input.count,
+                ..self.input
             },
             cr: false,
         }
@@ -179,14 +144,13 @@ impl Text {
         if lines {
             return Text::new();
         }
-        let input = self.input;
         Self {
             input: TextInput {
                 state: State::Ground(true),
                 expect_starter: false,
                 at_start: false,
                 last: 0xa,
-                count: input.count,
+                ..self.input
             },
             cr: false,
         }
@@ -210,46 +174,36 @@ impl Text {
         ensures taken { result ≡ taken_by k tally 1 (take_of page.now options lines self c) }
         ensures places { out.new ≡ sets out.old k (encode_all (take_of page.now options lines self c).out) }
     {
-        let input = self.input;
-        let before = one(self.cr & (c != 0xa));
-        let first = begin(input);
-        if input.at_start & (c == BOM) {
+        let input = begin(self.input);
+        let before = usize::from(self.cr & (c != 0xa));
+        if self.input.at_start & (c == BOM) {
             return Taken {
                 at: k,
-                text: Text {
-                    input: first,
-                    cr: false,
-                },
+                text: Text { input, cr: false },
                 tally: tally_char(tally, 1, before),
             };
         }
-        let state = input.state;
-        let part = in_escape(state, c);
-        let lost = before + one(part & is_losable(options, lines, c));
-        let sofar = tally_char(tally, one(part), lost);
-        let step = first.step(page, options, c);
-        let lead = step.lead;
-        let image = step.image;
-        let then = put_lead(lead, out, k);
-        let at = put_image(image, out, then);
-        let next = step.next;
+        let part = in_escape(self.input.state, c);
+        let lost = before + usize::from(part & is_losable(options, lines, c));
+        let sofar = tally_char(tally, usize::from(part), lost);
+        let step = input.step(page, options, c);
+        let then = put_lead(step.lead, out, k);
+        let at = put_image(step.image, out, then);
         if lines & (c == 0xa) {
             let last = Text {
-                input: next,
+                input: step.next,
                 cr: false,
             };
             let closed = last.close(true, out, at, sofar);
-            let all = closed.tally;
             return Taken {
-                at: closed.at,
                 text: Text::new(),
-                tally: all,
+                ..closed
             };
         }
         Taken {
             at,
             text: Text {
-                input: next,
+                input: step.next,
                 cr: part & (c == 0xd),
             },
             tally: sofar,
@@ -258,28 +212,24 @@ impl Text {
 
     // The text ends, or is pushed: what is pending, and what ends a text, from place k on. Inner: asks for room, and that the counts
     // fit.
+    #[tactic(auto, using(common::proofs::Lists::sets_append, scalars::proofs::Texts::encode_append))]
     pub fn close(self, eof: bool, out: &mut [u8], k: usize, tally: Tally) -> Taken
         requires room { k + length (encode_all (closed_of self eof).out) ≤ length out.old }
         requires fits { Fits (taken_by k tally 0 (closed_of self eof)).tally }
         ensures taken { result ≡ taken_by k tally 0 (closed_of self eof) }
         ensures places { out.new ≡ sets out.old k (encode_all (closed_of self eof).out) }
     {
-        let input = self.input;
-        let ending = input.ending(eof);
-        let lead = ending.lead;
-        let mark = ending.mark;
-        let newline = ending.newline;
-        let a = put_lead(lead, out, k);
-        let b = put_lead(mark, out, a);
-        let at = put_lead(newline, out, b);
-        let next = ending.next;
+        let ending = self.input.ending(eof);
+        let after_lead = put_lead(ending.lead, out, k);
+        let after_mark = put_lead(ending.mark, out, after_lead);
+        let at = put_lead(ending.newline, out, after_mark);
         Taken {
             at,
             text: Text {
-                input: next,
+                input: ending.next,
                 cr: false,
             },
-            tally: tally_lost(tally, one(self.cr)),
+            tally: tally_lost(tally, usize::from(self.cr)),
         }
     }
 }

@@ -1,23 +1,26 @@
 -- Runs of plain bytes and of plain characters, longer and longer from a place on.
---     to_here, to_more    plain bytes up to a place: none passed, and more behind it
---     one_byte            one byte that is plain
+--     block_more          a block of plain bytes behind plain ones, and what is left behind it
+--     prefix_more         the plain bytes that begin what is left
 --     Going               a run of plain characters at the head of a loop: its bytes are the encoding of its characters
---     run_begin           none passed
---     run_bytes           plain bytes behind it: each is a character, and its own encoding
+--     run_on              plain bytes behind it, or none: each is a character, and its own encoding
 --     run_char            a character of a gap behind it
 --     part_join           two parts of a list that join
-use Prim.Native.Nat.{ℕ, suc, ◌+◌, ◌-◌, ◌≤◌, ◌<◌}
+use Prim.Native.Nat.{ℕ, zero, suc, ◌+◌, ◌-◌, ◌≤◌, ◌<◌}
 use mathlib.Core.Path.{◌≡◌, refl, sym, ap, ◌∙◌}
 use mathlib.Core.Bool.{Bool, true, false, ◌&&◌, ◌||◌}
 use mathlib.Core.List.{List, [], ◌∷◌, ◌++◌, append-nil}
 use mathlib.Core.Logic.{◌⊎◌, inl, inr, ⊎_elim}
 use native.Mathlib.Omega.{arith}
 use lib.Dec.{eqb, leb}
-use lib.ListN.{length, get_or, take, drop, length-append, get_or-append}
-use lib.Seq.{take-add, drop-drop, get_or-append-add}
+use lib.ListN.{length, get_or, take, drop, length-append, length-drop, get_or-append, take-append-drop}
+use lib.Seq.{take-add, drop-drop, drop-append_seam, get_or-drop, get_or-append-add}
+use Rattle.std.specs.List.{list_all, prefix_len}
+use Rattle.std.proofs.lemmas.List.{get_or-take}
+use Rattle.std.proofs.lemmas.List.Folds.{length-prefix_len}
+use Rattle.std.proofs.lemmas.List.Sums.{prefix_len_passes}
 use borrow.Author.Tests.{leb-true, eqb-true, ne_eqb}
 use Rattle.common.proofs.Kit.{never, by_lt, both_true, or_cases}
-use Rattle.common.proofs.Places.{none, more, joined}
+use Rattle.common.proofs.Places.{joined}
 use Rattle.ranges.specs.declared.Range.{Range}
 use Rattle.ranges.specs.Inner.{in_range}
 use Rattle.scalars.specs.Chars.{is_char}
@@ -31,24 +34,49 @@ use Rattle.stretch.proofs.Clear.{sought_kept}
 use Rattle.stretch.proofs.Parts.{part_length, part_at}
 use Rattle.text_input_parts.specs.Appended.{last_of}
 use Rattle.text_input_parts.proofs.Last.{last_append}
-use Rattle.text_clean.specs.Inner.{plain_byte, PlainBytes, PlainTo, PlainRun}
+use Rattle.text_clean.specs.Inner.{plain_byte, PlainTo, PlainRun}
 use Rattle.std.specs.Prelude.{Some}
 
 -- ---- bytes
-module _ (bs : List ℕ) (f : ℕ) where
-  pub to_here : f ≤ length bs → PlainTo bs f f
-  to_here l = record { on = omega arith; low = l; each = none (λ x. plain_byte (get_or bs x 0) ≡ true) f f (omega arith) }
+all_plain : (bs : List ℕ) → list_all plain_byte bs ≡ true → (k : ℕ) → k < length bs → plain_byte (get_or bs k 0) ≡ true
+all_plain [] h k low = absurd (omega arith)
+all_plain (b ∷ bs) h zero low = (both_true (plain_byte b) (list_all plain_byte bs) h).0
+all_plain (b ∷ bs) h (suc k) low = all_plain bs (both_true (plain_byte b) (list_all plain_byte bs) h).1 k (omega arith)
 
-  pub to_more : (m t : ℕ) → PlainTo bs f m → m ≤ t → t ≤ length bs → PlainBytes bs m t → PlainTo bs f t
-  to_more m t a o l h =
-      record {
-        on = omega (arith, a.on);
-        low = l;
-        each = joined (λ x. plain_byte (get_or bs x 0) ≡ true) f m t a.each h;
-      }
+-- plain bytes ds behind it
+further : (bs : List ℕ) (f at n : ℕ) (ds rest : List ℕ) → PlainTo bs f at → drop at bs ≡ ds ++ rest → n ≡ length ds
+    → ((k : ℕ) → k < length ds → plain_byte (get_or ds k 0) ≡ true) → PlainTo bs f (at + n)
+further bs f at n ds rest a e l h =
+    record {
+      on = omega (arith, a.on);
+      low = omega (arith, a.low, simp (length-append, length-drop) at (ap length e));
+      each = joined (λ x. plain_byte (get_or bs x 0) ≡ true) f at (at + n) a.each
+          (λ x low high.
+          let e₁ : at + (x - at) ≡ x = omega arith in
+          let e₂ = get_or-drop at bs (x - at) 0 in
+          let e₃ = get_or-append ds rest 0 (x - at) (omega arith) in
+          let p = h (x - at) (omega arith) in
+          rw (← e₁, ← e₂, e, e₃) p);
+    }
 
-pub one_byte : (bs : List ℕ) (i : ℕ) → plain_byte (get_or bs i 0) ≡ true → PlainBytes bs i (i + 1)
-one_byte bs i h = more (λ x. plain_byte (get_or bs x 0) ≡ true) i i (none _ i i (omega arith)) h
+-- a block of plain bytes, and what is left behind it
+pub block_more : (bs : List ℕ) (f at : ℕ) (block rest : List ℕ) → PlainTo bs f at → drop at bs ≡ block ++ rest → length block ≡ 16
+    → list_all plain_byte block ≡ true → PlainTo bs f (at + 16) × (rest ≡ drop (at + 16) bs)
+block_more bs f at block rest a e l h = (
+  further bs f at 16 block rest a e (sym l) (all_plain block h),
+  rw (← drop-drop 16 at bs, e, ← l) (sym (drop-append_seam block rest)),
+)
+
+-- the n plain bytes that begin what is left
+pub prefix_more : (bs : List ℕ) (f at n : ℕ) → PlainTo bs f at → n ≡ length (take (prefix_len plain_byte (drop at bs)) (drop at bs))
+    → PlainTo bs f (at + n)
+prefix_more bs f at n a e =
+    let d = drop at bs in
+    let m = prefix_len plain_byte d in
+    further bs f at n (take m d) (drop m d) a (sym (take-append-drop m d)) e
+    (λ k low.
+    let lt : k < m = omega (arith, length-prefix_len plain_byte d) in
+    rw get_or-take (prefix_len_passes plain_byte d k 0 lt))
 
 -- a byte between two others, or 9
 between : (lo hi b : ℕ) → (leb lo b && leb b hi) || eqb b 9 ≡ true → ((lo ≤ b) × (b ≤ hi)) ⊎ (b ≡ 9)
@@ -131,22 +159,6 @@ pub record Going (bs : List ℕ) (f at chars last : ℕ) : Type 0 where
   pub few : chars ≤ at
 
 module _ (bs : List ℕ) (f : ℕ) where
-  pub run_begin : f ≤ length bs → Going bs f f 0 0
-  run_begin l =
-      record {
-        run =
-            record {
-              on = omega arith;
-              low = l;
-              chars = [];
-              bytes = let e : f - f ≡ 0 = omega arith in rw e;
-              each = λ x h. absurd (omega arith);
-              count = refl;
-              last = refl;
-            };
-        few = omega arith;
-      }
-
   -- characters ds behind it, at least one
   behind : (at chars last t d : ℕ) (ds : List ℕ) → Going bs f at chars last → at + length ds ≤ t → t ≤ length bs
       → part at t bs ≡ encode_all ds → Plains ds → ((l : ℕ) → last_of l ds ≡ d) → Going bs f t (chars + length ds) d
@@ -168,7 +180,7 @@ module _ (bs : List ℕ) (f : ℕ) where
       }
 
   module _ (gap : Range) (plain : Gap gap) (at chars last : ℕ) (g : Going bs f at chars last) where
-    pub run_bytes : (t : ℕ) → PlainTo bs at t → at < t → Going bs f t (chars + (t - at)) (get_or bs (t - 1) 0)
+    run_bytes : (t : ℕ) → PlainTo bs at t → at < t → Going bs f t (chars + (t - at)) (get_or bs (t - 1) 0)
     run_bytes t p h =
         let n = part_length bs at t p.on p.low in
         let low : (x : ℕ) → x < length (part at t bs) → plain_byte (get_or (part at t bs) x 0) ≡ true =
@@ -179,6 +191,13 @@ module _ (bs : List ℕ) (f : ℕ) where
         (sym (encode_ascii (part at t bs) (λ x l. low_byte _ (low x l))))
         (λ x l. plain_byte_lem gap plain _ (low x l))
         (λ l. last_at l (part at t bs) (t - 1 - at) (omega arith) ∙ part_at bs at t p.on (t - 1 - at) (omega arith) ∙ rw k))
+
+    -- plain bytes up to t behind it, or none
+    pub run_on : (t a k l : ℕ) → PlainTo bs at t
+        → ((at < t) × (a ≡ t) × (k ≡ chars + (t - at)) × (l ≡ get_or bs (t - 1) 0)) ⊎ ((a ≡ at) × (k ≡ chars) × (l ≡ last))
+        → (at ≤ a) × Going bs f a k l
+    run_on t a k l p (inl e) = (omega (arith, e.0, e.1), rw (e.1, e.2, e.3) (run_bytes t p e.0))
+    run_on t a k l p (inr e) = (omega (arith, e.0), rw (e.0, e.1, e.2) g)
 
     pub run_char : (c next : ℕ) → utf8_step_of bs at ≡ Some (c, next) → in_gap gap c ≡ true → Going bs f next (chars + 1) c
     run_char c next e i =
