@@ -1,58 +1,73 @@
--- The place that a binary search finds among rising ranges: that of the first range that does not end before a number c.
---     Point                    the ranges before the place end before c, and the one at it, if there is one, does not
---     point, packed_point      what `partition_point` says, where each call tells whether a range ends before c: of a list's lasts, and of
---                              packed numbers
---     found, none_found        what stands there: a range that has c where c is a member; or none, and c is no member
-use Rattle.std.proofs.Common.{◌≡◌, ℕ, ◌≤◌, ◌<◌, Bool, true, false, ltb, List, length, get_or, ltb-true, ltb-false, Bor, arith}
-use denote.Param.Members.{Mut}
-use Rattle.std.specs.Fn.{Called, ComputesKey}
-use Rattle.std.specs.List.Sorted.{IsNonDecreasingBy, IsPartitionedBy, IsPartitionPoint}
-use Rattle.std.proofs.lemmas.List.Sorted.{IsNonDecreasingBy-from_default, IsPartitionedBy-ltb, IsPartitionPoint-from_clause}
-use lib.ListN.{get_or-map, length-map}
+-- The binary search for a number c among n rising ranges, said over the first and the last of the range at each place: in whatever form a
+-- list keeps them. The ranges before `lo` end before c, and the one at `hi`, if there is one, does not; where the two meet is the first
+-- range that does not end before c, and `found_at` says what that is worth.
+--     Between           where a search stands
+--     begun             it begins with all ranges
+--     right, left       it goes on with one half: past the range at mid, which ends before c, or up to it
+--     met, past_all     what is found where lo and hi have met: a range, or that each ends before c
+use mathlib.Core.Path.{◌≡◌}
+use mathlib.Core.Bool.{true}
+use mathlib.Core.List.{List}
+use Prim.Native.Nat.{ℕ, ◌+◌, ◌≤◌, ◌<◌}
+use native.Mathlib.Omega.{arith}
+use lib.ListN.{length, get_or}
 use Rattle.ranges.specs.Ranges.{rises}
-use Rattle.ranges.specs.Packed.{first_in, last_in, firsts_in, lasts_in}
 use Rattle.ranges.specs.Inner.{no_range, Found}
 use Rattle.ranges.proofs.Laws.{same_length, both_rise}
 use Rattle.ranges.proofs.Found.{found_at, found_none}
 
-pub record Point (lasts : List ℕ) (c at : ℕ) : Type 0 where
-  pub past : (i : ℕ) → i < at → get_or lasts i 0 < c
-  pub not_past : at < length lasts → c ≤ get_or lasts at 0
+module _ (firsts lasts : List ℕ) (c n : ℕ) where
+  pub record Between (lo hi : ℕ) : Type 0 where
+    pub rising : rises 0 firsts lasts ≡ true
+    pub all_firsts : length firsts ≡ n
+    pub all_lasts : length lasts ≡ n
+    pub order : lo ≤ hi
+    pub within : hi ≤ n
+    pub past : (i : ℕ) → i < lo → get_or lasts i 0 < c
+    pub not_past : hi < n → c ≤ get_or lasts hi 0
 
-last_at : (packed : List ℕ) (i : ℕ) → get_or (lasts_in packed) i 0 ≡ last_in (get_or packed i 0)
-unfolding first_in last_in
-last_at packed i = get_or-map last_in packed i 0
-
-lasts_rise : (firsts lasts : List ℕ) → rises 0 firsts lasts ≡ true → IsNonDecreasingBy (λ l. l) lasts
-lasts_rise firsts lasts r =
-    IsNonDecreasingBy-from_default (λ l. l) lasts 0
-    (λ i k ik h. (both_rise 0 firsts lasts r i k ik (omega (arith, same_length 0 firsts lasts r))).1)
-
-packed_lasts_rise : (packed : List ℕ) → rises 0 (firsts_in packed) (lasts_in packed) ≡ true → IsNonDecreasingBy last_in packed
-packed_lasts_rise packed r =
-    IsNonDecreasingBy-from_default last_in packed 0
-    (λ i k ik h. rw (← last_at packed i, ← last_at packed k) ((both_rise 0 (firsts_in packed) (lasts_in packed) r i k ik (rw length-map h)).1))
-
-module _ (c at : ℕ) {F : Type 0} {g : Mut F (Bor ℕ × Unit {0}) Bool} {f : F} (xs : List ℕ)
-    (said : (q : ℕ → Bool) → ComputesKey g q f → IsPartitionedBy q xs → IsPartitionPoint (λ y. q y ≡ true) (λ y. q y ≡ false) xs at) where
-  pub point : (firsts : List ℕ) → rises 0 firsts xs ≡ true
-      → ((a : Bor ℕ × Unit {0}) (r : Bool) (f' : F) → Called g f a r f' → (r ≡ ltb a.0.now c) × (f' ≡ f)) → Point xs c at
-  point firsts r test =
-      let p = IsPartitionPoint-from_clause (λ l. ltb l c) xs at said (IsPartitionedBy-ltb (λ l. l) xs c (lasts_rise firsts xs r)) test in
-      record { past = λ i h. ltb-true _ _ (p.0 i 0 (omega arith) h); not_past = λ h. ltb-false _ _ (p.1 at 0 (omega arith) h) }
-
-  pub packed_point : rises 0 (firsts_in xs) (lasts_in xs) ≡ true
-      → ((a : Bor ℕ × Unit {0}) (r : Bool) (f' : F) → Called g f a r f' → (r ≡ ltb (last_in a.0.now) c) × (f' ≡ f)) → Point (lasts_in xs) c at
-  packed_point r test =
-      let p = IsPartitionPoint-from_clause (λ n. ltb (last_in n) c) xs at said (IsPartitionedBy-ltb last_in xs c (packed_lasts_rise xs r)) test in
+  pub begun : rises 0 firsts lasts ≡ true → length firsts ≡ n → Between 0 n
+  begun r e =
       record {
-        past = λ i h. rw (last_at xs i) (ltb-true _ _ (p.0 i 0 (omega arith) h));
-        not_past = λ h. rw (last_at xs at) (ltb-false _ _ (p.1 at 0 (omega arith) (rw length-map at h)));
+        rising = r;
+        all_firsts = e;
+        all_lasts = omega (arith, same_length 0 firsts lasts r);
+        order = omega arith;
+        within = omega arith;
+        past = λ i h. omega arith;
+        not_past = λ h. omega arith;
       }
 
-module _ (firsts lasts : List ℕ) (r : rises 0 firsts lasts ≡ true) (c at : ℕ) (p : Point lasts c at) where
-  pub found : at < length firsts → Found firsts lasts c (record { first = get_or firsts at 0; last = get_or lasts at 0 })
-  found h = found_at firsts lasts r c at h p.past (p.not_past (omega (arith, same_length 0 firsts lasts r)))
+  module _ {lo hi : ℕ} (b : Between lo hi) where
+    -- the ranges before mid end before c as well, since the lasts rise
+    pub right : (mid : ℕ) → mid < hi → get_or lasts mid 0 < c → Between (mid + 1) hi
+    right mid h e =
+        record {
+          rising = b.rising;
+          all_firsts = b.all_firsts;
+          all_lasts = b.all_lasts;
+          order = omega arith;
+          within = b.within;
+          past = λ i k. omega (arith, (both_rise 0 firsts lasts b.rising i mid (omega arith) (omega (arith, b.within, b.all_firsts))).1);
+          not_past = b.not_past;
+        }
 
-  pub none_found : length firsts ≤ at → Found firsts lasts c no_range
-  none_found h = found_none firsts lasts r c (λ i k. p.past i (omega (arith, same_length 0 firsts lasts r)))
+    pub left : (mid : ℕ) → lo ≤ mid → mid < hi → c ≤ get_or lasts mid 0 → Between lo mid
+    left mid l h e =
+        record {
+          rising = b.rising;
+          all_firsts = b.all_firsts;
+          all_lasts = b.all_lasts;
+          order = l;
+          within = omega (arith, b.within);
+          past = b.past;
+          not_past = λ k. e;
+        }
+
+    pub met : hi ≤ lo → lo < n → Found firsts lasts c (record { first = get_or firsts lo 0; last = get_or lasts lo 0 })
+    met e h =
+        let s : hi ≡ lo = omega (arith, b.order) in
+        found_at firsts lasts b.rising c lo (omega (arith, b.all_firsts)) b.past ((rw s at b.not_past) h)
+
+    pub past_all : n ≤ lo → Found firsts lasts c no_range
+    past_all h = found_none firsts lasts b.rising c (λ i k. b.past i (omega (arith, b.all_lasts)))

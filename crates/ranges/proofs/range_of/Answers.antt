@@ -1,21 +1,16 @@
--- `ranges::range_of` meets its contract: it takes the range at the place that is found.
-use Rattle.std.proofs.Common.{arith, rules, tests}
-use Rattle.ranges.proofs.Laws.{same_length}
-use Rattle.ranges.proofs.Search.{point, found, none_found}
+-- `ranges::range_of` meets its contract: the search goes on with one half, and takes the range where the halves have met.
+use Rattle.std.proofs.Common.{refl, arith}
+use Rattle.ranges.proofs.Search.{begun, right, met, past_all}
 use Rattle.ranges.proofs.range_of.Goals as goal
 
-pub bounds-lasts-at : goal.bounds-lasts-at
-bounds-lasts-at c = omega (arith, same_length 0 c.args.firsts.now c.args.lasts.now c.requires)
+pub loop-lo-init : goal.loop-lo-init
+loop-lo-init c = begun _ _ _ _ c.requires refl
 
-pub returns-then-at-firsts : goal.returns-then-at-firsts
-returns-then-at-firsts c =
-    found _ _ c.requires _ _
-    (point _ _ _ c.partition_point-at.ensures.partitioned c.args.firsts.now c.requires (λ a r q k. search (rules, tests)))
-    c.if-at-firsts.true
+pub loop-lo-preserved-then-lasts-mid : goal.loop-lo-preserved-then-lasts-mid
+loop-lo-preserved-then-lasts-mid c = right _ _ _ _ c.loop-lo.invariant _ (omega arith) c.if-lasts-mid.true
+
+pub returns-then-lo-firsts : goal.returns-then-lo-firsts
+returns-then-lo-firsts c = met _ _ _ _ c.loop-lo.invariant (omega arith) (omega arith)
 
 pub returns : goal.returns
-returns c =
-    rw c.no_range.ensures
-    (none_found _ _ c.requires _ _
-    (point _ _ _ c.partition_point-at.ensures.partitioned c.args.firsts.now c.requires (λ a r q k. search (rules, tests)))
-    c.if-at-firsts.false)
+returns c = rw c.no_range.ensures (past_all _ _ _ _ c.loop-lo.invariant (omega arith))
