@@ -6,6 +6,6 @@ pub mod Storing
 pub mod Places
 pub mod Tested
 pub mod Flags
-pub mod Blocks
+pub mod Chunks
 pub mod Answers
 pub mod Order

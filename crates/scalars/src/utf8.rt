@@ -110,8 +110,14 @@ fn ascii_blocks(bytes: &[u8], from: usize, stop: usize, size: usize) -> usize
     requires size_nonzero { 0 < size }
     ensures { AsciiTo bytes.now from stop result }
 {
-    let blocks = bytes[from..stop].chunks_exact(size);
-    from + size * blocks.take_while(|block| ascii_block(block)).count()
+    let mut end = from;
+    for block in bytes[from..stop].chunks_exact(size) {
+        if !ascii_block(block) {
+            return end;
+        }
+        end += size;
+    }
+    end
 }
 
 // The same by blocks of 64, of 16, and one by one. Each size is a number here, by which the loop of `ascii_block` is unrolled.
