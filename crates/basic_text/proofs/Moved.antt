@@ -23,8 +23,6 @@ use Rattle.isolate_unassigned.specs.Inner.{last_owed}
 use Rattle.isolate_unassigned.proofs.Means.{last_owed_size}
 use Rattle.text_output.specs.declared.Mode.{Mode}
 use Rattle.text_output_write.specs.declared.store.Place.{Place}
-use Rattle.text_output_write.specs.declared.store.Pushed.{Pushed}
-use Rattle.text_output_write.specs.declared.store.Pushed.TheVariants.{On, Stopped}
 use Rattle.text_output.specs.Writer.{Machine, held_in, sound}
 use Rattle.text_output.specs.Step.{Stepped, steps_of}
 use Rattle.text_output_write.specs.Inner.{Progress, machine_at, pushed, stored, progress, turn_of}
@@ -34,6 +32,8 @@ use Rattle.basic_text.specs.Inner.{tail, at_place, place_in, behind_of}
 use Rattle.basic_text.proofs.Laws.{Bytes, four_more, length_numbers, length_bytes, all_is, stores_rest}
 use Rattle.basic_text.proofs.Stores.{sets_bytes}
 use Rattle.basic_text.proofs.Crossing.{Wide, wide_more, number_back}
+use Rattle.text_output_write.specs.declared.store.Stopped.{Stopped}
+use Rattle.std.specs.Prelude.{Result, Ok, Err}
 
 -- ---- one number
 numbers_set : (q : List ℕ) (k n : ℕ) → n < 4294967296 → 4 * (k + 1) ≤ length q → numbers_of (sets q (4 * k) (bytes_of (n ∷ []))) ≡ set (numbers_of q) k n
@@ -79,23 +79,23 @@ with_tail q q₀ b l t =
     ∙ sym (stores_rest (numbers_of q) q₀ (omega (arith, e, length_numbers q₀)))
 
 -- ---- steps moved
-moved_by : (k : ℕ) (x : Pushed) (escape few places : List ℕ) →
+moved_by : (k : ℕ) (x : Result Place Stopped) (escape few places : List ℕ) →
     progress (behind_of k x) escape places
     ≡ (let y = progress x escape few in
     record { going = y.going; at = k + y.at; machine = y.machine; refusal = y.refusal; places = places })
 unfolding machine_at at_place
-moved_by k (On w) escape few places = refl
-moved_by k (Stopped w stop) escape few places = refl
+moved_by k (Ok w) escape few places = refl
+moved_by k (Err s) escape few places = refl
 
-place_at : (x : Pushed) (escape few : List ℕ) → (place_in x).at ≡ (progress x escape few).at
-place_at (On w) escape few = refl
-place_at (Stopped w stop) escape few = refl
+place_at : (x : Result Place Stopped) (escape few : List ℕ) → (place_in x).at ≡ (progress x escape few).at
+place_at (Ok w) escape few = refl
+place_at (Err s) escape few = refl
 
-places_of : (x : Pushed) (escape few : List ℕ) → (progress x escape few).places ≡ few
-places_of (On w) escape few = refl
-places_of (Stopped w stop) escape few = refl
+places_of : (x : Result Place Stopped) (escape few : List ℕ) → (progress x escape few).places ≡ few
+places_of (Ok w) escape few = refl
+places_of (Err s) escape few = refl
 
-module _ (x : Pushed) (escape few few₀ : List ℕ) (s : Stepped) (e : progress x escape few ≡ stored 0 few₀ s) where
+module _ (x : Result Place Stopped) (escape few few₀ : List ℕ) (s : Stepped) (e : progress x escape few ≡ stored 0 few₀ s) where
   pub moved_at : (place_in x).at ≡ length (pushed s)
   moved_at = place_at x escape few ∙ ap (λ (y : Progress). y.at) e ∙ zero-add (length (pushed s))
 

@@ -1,10 +1,9 @@
 -- What the contracts of private functions cite. The contracts of the exports cite nothing of it. Document 01, "A chunk comes in" for
 -- the page, "Characters go out" for the rest.
-use Rattle.std.specs.Prelude.{ℕ, ◌+◌, ◌*◌, cond, List, [], leb, length, drop}
+use Rattle.std.specs.Prelude.{ℕ, ◌+◌, ◌*◌, cond, List, [], leb, length, drop, Result, Ok, Err}
 use Rattle.text_output_write.specs.declared.store.Place.{Place}
-use Rattle.text_output_write.specs.declared.store.Pushed.{Pushed}
-use Rattle.text_output_write.specs.declared.store.Pushed.TheVariants.{On, Stopped}
 use Rattle.basic_text.specs.Exports.{numbers_of}
+use Rattle.text_output_write.specs.declared.store.Stopped.{Stopped}
 
 -- the numbers of the longest page that is accepted: "N nonstarter ranges, A assigned ranges (0 to 2,048 each)" and "The length is
 -- exactly 2 + 2 × (N + A)"
@@ -24,11 +23,11 @@ unfoldable pub at_place : Place → ℕ → Place
 at_place w at = record { state = w.state; held = w.held; at = at }
 
 -- where some steps stand
-abbrev pub place_in : Pushed → Place
-place_in (On w) = w
-place_in (Stopped w stop) = w
+abbrev pub place_in : Result Place Stopped → Place
+place_in (Ok w) = w
+place_in (Err s) = s.place
 
 -- the same, with k numbers before theirs
-abbrev pub behind_of : ℕ → Pushed → Pushed
-behind_of k (On w) = On (at_place w (k + w.at))
-behind_of k (Stopped w stop) = Stopped (at_place w (k + w.at)) stop
+abbrev pub behind_of : ℕ → Result Place Stopped → Result Place Stopped
+behind_of k (Ok w) = Ok (at_place w (k + w.at))
+behind_of k (Err s) = Err (record { place = at_place s.place (k + s.place.at); stop = s.stop })

@@ -22,12 +22,12 @@ use Rattle.text_output.specs.declared.TextOutput.{TextOutput}
 use Rattle.text_output.specs.declared.Written.{Written}
 use Rattle.text_output.specs.declared.WrittenBytes.{WrittenBytes}
 use Rattle.text_output_write.specs.declared.store.Place.{Place}
-use Rattle.text_output_write.specs.declared.store.Pushed.{Pushed}
-use Rattle.text_output_write.specs.declared.store.Pushed.TheVariants.{On, Stopped}
 use Rattle.text_output.specs.Writer.{Outcome, machine_of, sound, wrote_numbers, written_outcome, bytes_outcome}
 use Rattle.text_output.specs.Write.{run_in, written_by, places_for_write, write_refusal, refused_write, write_str_refusal, write_str_of, succeeds, taking, write_bytes_refusal, write_of}
 use Rattle.text_output_write.specs.Inner.{machine_at, pushed, stored, progress, end_of}
 use Rattle.text_output_write.proofs.Ends.{ended_stored, write_fits}
+use Rattle.text_output_write.specs.declared.store.Stopped.{Stopped}
+use Rattle.std.specs.Prelude.{Result, Ok, Err}
 
 -- ---- the tests
 pub record Through (w : TextOutput) (p : List ℕ) (n room : ℕ) : Type 0 where
@@ -80,14 +80,14 @@ pub refused_anywhere : (r : Written) (w : TextOutput) (n : ℕ) (places : List �
     written_outcome r places ≡ record { given = refused_write n w; places = places }
 refused_anywhere r w n places e = rw (← e) refl
 
-module _ (p : List ℕ) (mode : Mode) (expect : Bool) (r : Written) (x : Pushed) (escape : List ℕ) (first : ℕ)
+module _ (p : List ℕ) (mode : Mode) (expect : Bool) (r : Written) (x : Result Place Stopped) (escape : List ℕ) (first : ℕ)
     (e : written_outcome r (first ∷ []) ≡ end_of p mode expect (progress x escape (first ∷ []))) where
   pub end_anywhere : (places : List ℕ) → first ≡ get_or places 0 0 → written_outcome r places ≡ end_of p mode expect (progress x escape places)
   end_anywhere places f = ap (λ (o : Outcome). record { given = o.given; places = places }) e ∙ same x
     where
-      same : (y : Pushed) → record { given = (end_of p mode expect (progress y escape (first ∷ []))).given; places = places } ≡ end_of p mode expect (progress y escape places)
-      same (On w) = rw f refl
-      same (Stopped w stop) = refl
+      same : (y : Result Place Stopped) → record { given = (end_of p mode expect (progress y escape (first ∷ []))).given; places = places } ≡ end_of p mode expect (progress y escape places)
+      same (Ok w) = rw f refl
+      same (Err s) = refl
 
 -- ---- where a write begins
 abbrev pub Begins : TextOutput → Place → Type 0
@@ -105,7 +105,7 @@ module _ (w : TextOutput) (r : Place) (b : Begins w r) (p cs : List ℕ) where
   place_asks room t = (t.page, (rw b.0 t.is_sound, rw (same_run, b.1) (write_fits p t.page cs w room t.is_sound t.fits)))
 
   -- how they end
-  pub place_ends : (x : Pushed) (escape' places' places : List ℕ) →
+  pub place_ends : (x : Result Place Stopped) (escape' places' places : List ℕ) →
       progress x escape' places' ≡ stored r.at places (run_in w.mode p (machine_at r w.escape_sequence) cs) →
       end_of p w.mode w.expect_starter (progress x escape' places') ≡ written_by w p cs places
   unfolding written_by

@@ -13,12 +13,13 @@ use lib.Seq.{sets, length-sets}
 use Rattle.common.proofs.Kit.{never}
 use Rattle.common.proofs.Lists.{sets_append}
 use Rattle.text_output_write.specs.declared.store.Place.{Place}
+use Rattle.text_output_write.specs.declared.store.Stopped.{Stopped}
 use Rattle.text_output_write.specs.declared.store.Stop.{Stop}
-use Rattle.text_output_write.specs.declared.store.Pushed.TheVariants.{On, Stopped}
 use Rattle.text_output.specs.Writer.{Machine, sound}
 use Rattle.text_output.specs.Step.{Stepped, goes, stops, behind, and_then}
 use Rattle.text_output_write.specs.Inner.{Progress, pushed, stored, progress, machine_at}
 use Rattle.text_output_write.proofs.Stays.{Stays, pushed_behind}
+use Rattle.std.specs.Prelude.{Ok, Err}
 
 -- the place after two lists
 after_both : (at : ℕ) (xs ys : List ℕ) → at + length (xs ++ ys) ≡ at + length xs + length ys
@@ -39,13 +40,13 @@ module _ (at : ℕ) (out : List ℕ) (more : Machine → Stepped) where
   then_off (goes xs w) x e g = never (sym g ∙ ap (λ (y : Progress). y.going) e)
   then_off (stops xs w n) x e g = e
 
-  pub on_then : (s : Stepped) (w : Place) (escape places : List ℕ) → progress (On w) escape places ≡ stored at out s →
+  pub on_then : (s : Stepped) (w : Place) (escape places : List ℕ) → progress (Ok w) escape places ≡ stored at out s →
       stored w.at places (more (machine_at w escape)) ≡ stored at out (and_then s more)
-  on_then s w escape places e = then_on s (progress (On w) escape places) e refl
+  on_then s w escape places e = then_on s (progress (Ok w) escape places) e refl
 
-  pub off_then : (s : Stepped) (w : Place) (stop : Stop) (escape places : List ℕ) →
-      progress (Stopped w stop) escape places ≡ stored at out s → progress (Stopped w stop) escape places ≡ stored at out (and_then s more)
-  off_then s w stop escape places e = then_off s (progress (Stopped w stop) escape places) e refl
+  pub off_then : (s : Stepped) (h : Stopped) (escape places : List ℕ) →
+      progress (Err h) escape places ≡ stored at out s → progress (Err h) escape places ≡ stored at out (and_then s more)
+  off_then s h escape places e = then_off s (progress (Err h) escape places) e refl
 
 -- ---- room
 pub first_fits : (s : Stepped) (more : Machine → Stepped) → length (pushed s) ≤ length (pushed (and_then s more))
@@ -59,7 +60,7 @@ same_end at at' out out' s t e = ap (λ (x : Progress). x.at) e
 
 -- ---- after a part of the steps that goes on
 module _ (w : Place) (escape out : List ℕ) (s : Stepped) (n : ℕ) (stays : Stays n (machine_at w escape) s) (next : Place)
-    (escape' out' : List ℕ) (e : progress (On next) escape' out' ≡ stored w.at out s) where
+    (escape' out' : List ℕ) (e : progress (Ok next) escape' out' ≡ stored w.at out s) where
   pub next_sound : sound (machine_at next escape') ≡ true
   next_sound = ap (λ (x : Progress). sound x.machine) e ∙ stays.is_sound
 

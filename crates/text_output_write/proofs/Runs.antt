@@ -22,7 +22,6 @@ use Rattle.isolate_unassigned.specs.declared.IsolateUnassigned.{IsolateUnassigne
 use Rattle.isolate_unassigned.specs.Inner.{fresh, last_owed}
 use Rattle.text_output.specs.declared.Mode.{Mode}
 use Rattle.text_output_write.specs.declared.store.Place.{Place}
-use Rattle.text_output_write.specs.declared.store.Pushed.TheVariants.{On}
 use Rattle.text_output.specs.Writer.{Machine, sound}
 use Rattle.text_output.specs.Step.{Stepped, and_then, steps_of}
 use Rattle.text_output.specs.Write.{run_in}
@@ -30,7 +29,7 @@ use Rattle.text_output_write.specs.Inner.{Progress, machine_at, pushed, stored, 
 use Rattle.text_output_write.proofs.Rest.{rest_of, run_rest}
 use Rattle.text_output_write.proofs.Stays.{turn_sound}
 use Rattle.text_output_write.proofs.Progress.{on_then, then_off, first_fits, same_end, next_sound, next_same}
-use Rattle.std.specs.Prelude.{Some, None}
+use Rattle.std.specs.Prelude.{Some, None, Ok}
 
 -- where one is taken at a place, and the next place is this
 pub record LeftOn (L : ℕ → List ℕ → Type 0) (c next : ℕ) (cs : List ℕ) : Type 0 where
@@ -80,7 +79,7 @@ module _ {L : ℕ → List ℕ → Type 0} {p : List ℕ} {mode : Mode} {start :
           let end = same_end w.at start.at out out₀ (and_then here more) (run_in mode p (machine_at start escape₀) cs₀) turned in
           (a.0, (g.is_sound, omega (arith, a.1.1, end, first_fits here more, g.same)))
 
-      pub again : {next : Place} {s : IsolateUnassigned} {escape' out' : List ℕ} → progress (On next) escape' out' ≡ stored w.at out here →
+      pub again : {next : Place} {s : IsolateUnassigned} {escape' out' : List ℕ} → progress (Ok next) escape' out' ≡ stored w.at out here →
           s ≡ isolator_after mode p r c → Going L p mode start escape₀ out₀ cs₀ next s next-i escape' out'
       again {next} {s} {escape'} {out'} e q =
           let stays = turn_sound mode p c (machine_at w escape) r g.is_sound in

@@ -29,14 +29,13 @@ use Rattle.isolate_unassigned.specs.Meaning.{joiner}
 use Rattle.text_output.specs.declared.Mode.{Mode}
 use Rattle.text_output_write.specs.declared.store.Place.{Place}
 use Rattle.text_output_write.specs.declared.store.Stop.{Stop}
-use Rattle.text_output_write.specs.declared.store.Pushed.TheVariants.{On, Stopped}
 use Rattle.text_output.specs.Writer.{Machine}
 use Rattle.text_output.specs.Step.{and_then, refused_in, write_step_of, steps_of}
 use Rattle.text_output.specs.Write.{checked, put_crlf}
 use Rattle.text_output_write.specs.Inner.{machine_at, stored, stop_numbers, progress, is_crlf, handed_on, turn_of, isolator_after}
 use Rattle.text_output_write.proofs.Asked.{refused_stops}
 use Rattle.text_output_write.proofs.Rest.{and_then_alike, step_error, steps_one, steps_joined, accepted_no_sub, given_joined}
-use Rattle.std.specs.Prelude.{Ok}
+use Rattle.std.specs.Prelude.{Ok, Err}
 
 -- ---- what the isolator puts before
 abbrev pub two : Isolated → Bool
@@ -53,13 +52,13 @@ module _ (mode : Mode) (w : Place) (escape out : List ℕ) where
   joined put e = rw e (steps_one mode (machine_at w escape) [] 0x34F)
 
   pub not_joined : (put : Bool) → put ≡ false →
-      progress (On w) escape out ≡ stored w.at out (steps_of mode (machine_at w escape) [] (joiner put))
+      progress (Ok w) escape out ≡ stored w.at out (steps_of mode (machine_at w escape) [] (joiner put))
   unfolding steps_of
   not_joined put e = rw (e, add-zero) refl
 
 -- ---- 1A, which stops for the reason that the record keeps
 pub stop_stored : (mode : Mode) (w : Place) (escape out error : List ℕ) (stop : Stop) → stop_numbers stop ≡ 4 ∷ refused_in w.state error →
-    progress (Stopped w stop) escape out ≡ stored w.at out (write_step_of mode (machine_at w escape) error 0x1A)
+    progress (Err (record { place = w; stop = stop })) escape out ≡ stored w.at out (write_step_of mode (machine_at w escape) error 0x1A)
 unfolding machine_at
 stop_stored mode w escape out error stop s = rw (refused_stops mode (machine_at w escape) error, add-zero, s) refl
 

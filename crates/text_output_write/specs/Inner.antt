@@ -1,6 +1,6 @@
 -- What the steps of a write answer one by one. Document 01, "Characters go out" and "Refused ..". Cited by private functions, and by
 -- public ones that are inner: only `basic_text` calls them; `write_str` and `write` cite `text_output` alone.
-use Rattle.std.specs.Prelude.{ℕ, ◌+◌, Bool, true, false, cond, not, ◌&&◌, List, [], ◌∷◌, eqb, ltb, length}
+use Rattle.std.specs.Prelude.{ℕ, ◌+◌, Bool, true, false, cond, not, ◌&&◌, List, [], ◌∷◌, eqb, ltb, length, Result, Ok, Err}
 use Rattle.std.proofs.lemmas.List.Edits.{sets}
 use Rattle.text_utils.specs.Classes.{basic_text_start}
 use Rattle.check_char.specs.declared.Categorized.{Categorized}
@@ -13,12 +13,11 @@ use Rattle.text_output.specs.declared.Mode.TheVariants.{Plain, Crlf, Color}
 use Rattle.text_output_write.specs.declared.store.Place.{Place}
 use Rattle.text_output_write.specs.declared.store.Stop.{Stop}
 use Rattle.text_output_write.specs.declared.store.Stop.TheVariants.{Reason, Limit}
-use Rattle.text_output_write.specs.declared.store.Pushed.{Pushed}
-use Rattle.text_output_write.specs.declared.store.Pushed.TheVariants.{On, Stopped}
 use Rattle.text_output.specs.Writer.{Machine, Given, Outcome, writer_with, abandoned_by}
 use Rattle.text_output.specs.Kept.{kept_after}
 use Rattle.text_output.specs.Step.{Stepped, goes, stops, and_then, steps_of}
 use Rattle.text_output.specs.Write.{checked, put_crlf, hand_out}
+use Rattle.text_output_write.specs.declared.store.Stopped.{Stopped}
 
 -- ---- what steps change, as a place and the held characters
 unfoldable pub machine_at : Place → List ℕ → Machine
@@ -65,10 +64,10 @@ abbrev pub stop_numbers : Stop → List ℕ
 stop_numbers (Reason e) = 4 ∷ error_numbers e
 stop_numbers Limit = 6 ∷ []
 
-abbrev pub progress : Pushed → List ℕ → List ℕ → Progress
-progress (On w) escape places = record { going = true; at = w.at; machine = machine_at w escape; refusal = []; places = places }
-progress (Stopped w stop) escape places =
-    record { going = false; at = w.at; machine = machine_at w escape; refusal = stop_numbers stop; places = places }
+abbrev pub progress : Result Place Stopped → List ℕ → List ℕ → Progress
+progress (Ok w) escape places = record { going = true; at = w.at; machine = machine_at w escape; refusal = []; places = places }
+progress (Err s) escape places =
+    record { going = false; at = s.place.at; machine = machine_at s.place escape; refusal = stop_numbers s.stop; places = places }
 
 -- ---- a write, character by character
 -- the character that an answer of `Categorize` hands on

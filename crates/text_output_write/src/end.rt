@@ -1,14 +1,13 @@
 // How a write ends: what its steps stored is handed out, or stays kept. `write_buffer` of the Rust, and what `write_str` does on an
 // error.
-ghost use Rattle.std.specs.Prelude.{◌≡◌, true, [], ◌∷◌, get_or};
+ghost use Rattle.std.specs.Prelude.{◌≡◌, true, [], ◌∷◌, get_or, Ok, Err};
 ghost use Rattle.page.specs.Page.{accepted};
 ghost use Rattle.text_output.specs.Writer.{machine_of, wrote_numbers, wrote_tells, written_outcome};
-ghost use Rattle.text_output_write.specs.declared.store.Pushed.TheVariants.{On, Stopped};
 ghost use Rattle.text_output_write.specs.Inner.{machine_at, stop_numbers, progress, start_or_none, kept_by, end_of};
 
-use super::store::{Place, Pushed, Stop};
-use common::{ESCAPE_FULL, NO_START};
-use text_output::{Ground, Mode, State, TextOutput, Written, Wrote};
+use super::store::{Place, Stop, Stopped};
+use common::Refusal;
+use text_output::{Ground, Mode, State, TextOutput, WriteError, Written};
 use text_utils::is_basic_text_start;
 
 // Where a write begins: behind the kept characters.
@@ -16,9 +15,8 @@ pub fn place_of(w: TextOutput) -> Place
     ensures escape_sequence_value { machine_at result w.escape_sequence ≡ machine_of w }
     ensures at_value { result.at ≡ w.kept }
 {
-    let state = w.state;
     Place {
-        state,
+        state: w.state,
         held: w.held,
         at: w.kept,
     }
@@ -28,10 +26,7 @@ pub fn place_of(w: TextOutput) -> Place
 pub fn first_of(out: &[u32]) -> u32
     ensures { result ≡ get_or out.now 0 0 }
 {
-    if out.len() == 0 {
-        return 0;
-    }
-    out[0]
+    out.first().copied().unwrap_or(0)
 }
 
 // Whether n characters to hand out, the first of them given, are none or begin with a start. Inner: asks for an accepted page.
@@ -55,12 +50,11 @@ fn hand_out(
     first: u32,
 ) -> Written
     requires { accepted page.now ≡ true }
-    ensures { written_outcome result (first ∷ []) ≡ end_of page.now mode expect_starter (progress (On w) escape (first ∷ [])) }
+    ensures { written_outcome result (first ∷ []) ≡ end_of page.now mode expect_starter (progress (Ok w) escape (first ∷ [])) }
 {
-    let state = w.state;
     if expect_starter & !start_or_none(page, w.at, first) {
         Written {
-            answer: Wrote::Abandon(NO_START),
+            answer: Err(WriteError::Abandon(Refusal::NoStart)),
             next: TextOutput {
                 mode,
                 expect_starter: false,
@@ -72,11 +66,11 @@ fn hand_out(
         }
     } else {
         Written {
-            answer: Wrote::HandedOut(w.at),
+            answer: Ok(w.at),
             next: TextOutput {
                 mode,
                 expect_starter: false,
-                state,
+                state: w.state,
                 kept: 0,
                 held: w.held,
                 escape_sequence: escape,
@@ -86,27 +80,27 @@ fn hand_out(
 }
 
 // What a refused step answers.
-fn refused(stop: Stop) -> Wrote
-    ensures result_value { wrote_numbers result ≡ stop_numbers stop }
-    ensures result_value_2 { wrote_tells result ≡ true }
+fn refused(stop: Stop) -> WriteError
+    ensures numbers { wrote_numbers (Err result) ≡ stop_numbers stop }
+    ensures tells { wrote_tells (Err result) ≡ true }
 {
     match stop {
-        Stop::Reason(e) => Wrote::Unwritable(e),
-        Stop::Limit => Wrote::Abandon(ESCAPE_FULL),
+        Stop::Reason(e) => WriteError::Unwritable(e),
+        Stop::Limit => WriteError::Abandon(Refusal::EscapeFull),
     }
 }
 
 // A refused step: the characters before it stay kept.
-fn keep(mode: Mode, expect_starter: bool, w: Place, stop: Stop, escape: [u32; 64]) -> Written
-    ensures { (written_outcome result []).given ≡ kept_by mode expect_starter (progress (Stopped w stop) escape []) }
+fn keep(mode: Mode, expect_starter: bool, stopped: Stopped, escape: [u32; 64]) -> Written
+    ensures { (written_outcome result []).given ≡ kept_by mode expect_starter (progress (Err stopped) escape []) }
 {
     Written {
-        answer: refused(stop),
+        answer: Err(refused(stopped.stop)),
         next: TextOutput {
             mode,
             expect_starter,
             state: State::Ground(Ground::Newline),
-            kept: w.at,
+            kept: stopped.place.at,
             held: 0,
             escape_sequence: escape,
         },
@@ -118,7 +112,7 @@ pub fn end_write(
     page: &[u32],
     mode: Mode,
     expect_starter: bool,
-    pushed: Pushed,
+    pushed: Result<Place, Stopped>,
     escape: [u32; 64],
     first: u32,
 ) -> Written
@@ -126,7 +120,7 @@ pub fn end_write(
     ensures { written_outcome result (first ∷ []) ≡ end_of page.now mode expect_starter (progress pushed escape (first ∷ [])) }
 {
     match pushed {
-        Pushed::On(w) => hand_out(page, mode, expect_starter, w, escape, first),
-        Pushed::Stopped(w, stop) => keep(mode, expect_starter, w, stop, escape),
+        Ok(w) => hand_out(page, mode, expect_starter, w, escape, first),
+        Err(stopped) => keep(mode, expect_starter, stopped, escape),
     }
 }

@@ -25,17 +25,16 @@ pub use refusal::{bytes_refusal, refused_write, write_refusal};
 pub use run::{Turned, finish, turn};
 use run::{run, run_bytes};
 use scalars::valid_prefix;
-pub use store::{Place, Pushed, Stop};
-use text_output::{TextOutput, Written, WrittenBytes, Wrote};
+pub use store::{Place, Stop, Stopped};
+use text_output::{TextOutput, Written, WrittenBytes};
 
 // Writes characters: they are stored behind the kept ones, and all are handed out. Total: refuses 9, then 2, then 1, then 8, and
 // then leaves record and places; then 4 with its reason or 6, or 5 at the end.
 pub fn write_str(w: TextOutput, page: &[u32], chars: &[u32], out: &mut [u32]) -> Written
     ensures { written_outcome result out.new ≡ write_str_of w page.now chars.now out.old }
 {
-    let refusal = write_refusal(w, page, chars_refusal(chars), chars.len(), out.len());
-    if refusal != 0 {
-        return refused_write(w, refusal);
+    if let Err(why) = write_refusal(w, page, chars_refusal(chars), chars.len(), out.len()) {
+        return refused_write(w, why);
     }
     let mode = w.mode;
     let mut escape = w.escape_sequence;
@@ -51,9 +50,8 @@ pub fn write(w: TextOutput, page: &[u32], bytes: &[u8], out: &mut [u32]) -> Writ
 {
     let prefix = valid_prefix(bytes);
     let values = bytes_refusal(bytes.len(), prefix.chars);
-    let refusal = write_refusal(w, page, values, prefix.chars, out.len());
-    if refusal != 0 {
-        return taking(prefix.bytes, refused_write(w, refusal));
+    if let Err(why) = write_refusal(w, page, values, prefix.chars, out.len()) {
+        return taking(prefix.bytes, refused_write(w, why));
     }
     let mode = w.mode;
     let mut escape = w.escape_sequence;
@@ -68,28 +66,9 @@ pub fn taking(n: usize, written: Written) -> WrittenBytes
     ensures used_value { result.used ≡ cond (succeeds (wrote_numbers written.answer)) n 0 }
     ensures answer_value { (result.answer ≡ written.answer) × (result.next ≡ written.next) }
 {
-    let answer = written.answer;
-    let next = written.next;
-    match answer {
-        Wrote::HandedOut(_) => WrittenBytes {
-            used: n,
-            answer,
-            next,
-        },
-        Wrote::Refused(_) => WrittenBytes {
-            used: 0,
-            answer,
-            next,
-        },
-        Wrote::Abandon(_) => WrittenBytes {
-            used: 0,
-            answer,
-            next,
-        },
-        Wrote::Unwritable(_) => WrittenBytes {
-            used: 0,
-            answer,
-            next,
-        },
+    WrittenBytes {
+        used: if written.answer.is_ok() { n } else { 0 },
+        answer: written.answer,
+        next: written.next,
     }
 }

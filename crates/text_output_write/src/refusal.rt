@@ -1,44 +1,45 @@
 // What refuses a write before its steps: record, page and values, by 9, 2, and 1 or 3, and then the places lent, by 8.
 ghost use Rattle.std.specs.Prelude.{◌≡◌, [], ltb};
+ghost use Rattle.common.specs.Answers.{refusal_number, passed_number};
 ghost use Rattle.text_output.specs.Writer.{written_outcome};
 ghost use Rattle.text_output.specs.Write.{chars_refusal, bytes_refusal, input_refusal, places_for_write, write_refusal, refused_write};
 
-use common::{NO_ROOM, NOT_A_CHAR, NOT_UTF8, UNSOUND_WRITER, WRONG_PAGE};
+use common::Refusal;
 use page::is_accepted;
 use scalars::are_chars;
-use text_output::{TextOutput, Written, Wrote};
+use text_output::{TextOutput, WriteError, Written};
 
-// By which number characters refuse a write, 0 where they do not.
-pub fn chars_refusal(chars: &[u32]) -> u32
-    ensures { result ≡ chars_refusal chars.now }
+// Whether characters refuse a write.
+pub fn chars_refusal(chars: &[u32]) -> Result<(), Refusal>
+    ensures { passed_number result ≡ chars_refusal chars.now }
 {
-    if are_chars(chars) {
-        return 0;
+    if !are_chars(chars) {
+        return Err(Refusal::NotAChar);
     }
-    NOT_A_CHAR
+    Ok(())
 }
 
-// By which number so many bytes, which begin with so many characters, refuse a write, 0 where they do not.
-pub fn bytes_refusal(bytes: usize, chars: usize) -> u32
-    ensures { result ≡ bytes_refusal bytes chars }
+// Whether so many bytes, which begin with so many characters, refuse a write.
+pub fn bytes_refusal(bytes: usize, chars: usize) -> Result<(), Refusal>
+    ensures { passed_number result ≡ bytes_refusal bytes chars }
 {
     if (0 < bytes) & (chars == 0) {
-        return NOT_UTF8;
+        return Err(Refusal::NotUtf8);
     }
-    0
+    Ok(())
 }
 
-// 9, then 2, then the number by which the values refuse; 0 where none of them does.
-fn input_refusal(w: TextOutput, page: &[u32], values: u32) -> u32
-    ensures { result ≡ input_refusal w page.now values }
+// 9, then 2, then what the values say.
+fn input_refusal(w: TextOutput, page: &[u32], values: Result<(), Refusal>) -> Result<(), Refusal>
+    ensures { passed_number result ≡ input_refusal w page.now (passed_number values) }
 {
     if !w.is_sound() {
-        return UNSOUND_WRITER;
+        return Err(Refusal::UnsoundWriter);
     }
-    if is_accepted(page) {
-        return values;
+    if !is_accepted(page) {
+        return Err(Refusal::WrongPage);
     }
-    WRONG_PAGE
+    values
 }
 
 // Whether so many places are too few for a write of n characters, kept + held + 3 × n. Total: no sum is made, since a forged
@@ -56,33 +57,35 @@ fn is_short(w: TextOutput, n: usize, room: usize) -> bool
     (behind - w.held) / 3 < n
 }
 
-// The number by which a write of n characters is refused, 0 where it is not. Total.
-pub fn write_refusal(w: TextOutput, page: &[u32], values: u32, n: usize, room: usize) -> u32
-    ensures { result ≡ write_refusal w page.now values n room }
+// Whether a write of n characters is refused, and why. Total.
+pub fn write_refusal(
+    w: TextOutput,
+    page: &[u32],
+    values: Result<(), Refusal>,
+    n: usize,
+    room: usize,
+) -> Result<(), Refusal>
+    ensures { passed_number result ≡ write_refusal w page.now (passed_number values) n room }
 {
-    let input = input_refusal(w, page, values);
-    if input != 0 {
-        return input;
-    }
+    input_refusal(w, page, values)?;
     if is_short(w, n, room) {
-        return NO_ROOM;
+        return Err(Refusal::NoRoom);
     }
-    0
+    Ok(())
 }
 
-// A write refused by this number. Total.
-pub fn refused_write(w: TextOutput, n: u32) -> Written
-    ensures { (written_outcome result []).given ≡ refused_write n w }
+// A write refused for this. Total.
+pub fn refused_write(w: TextOutput, why: Refusal) -> Written
+    ensures { (written_outcome result []).given ≡ refused_write (refusal_number why) w }
 {
-    if n == NOT_UTF8 {
-        Written {
-            answer: Wrote::Abandon(NOT_UTF8),
+    match why {
+        Refusal::NotUtf8 => Written {
+            answer: Err(WriteError::Abandon(why)),
             next: w.abandon(),
-        }
-    } else {
-        Written {
-            answer: Wrote::Refused(n),
+        },
+        _ => Written {
+            answer: Err(WriteError::Refused(why)),
             next: w,
-        }
+        },
     }
 }

@@ -1,9 +1,8 @@
 // The steps of a write, character by character: each is checked, a refused one becoming 1A, then isolated, then stepped and stored.
 // `normal_write_str` and `crlf_write_str` of the Rust; its chain of iterators is a turn for each character.
-ghost use Rattle.std.specs.Prelude.{◌≡◌, true, false, [], ◌∷◌, ◌++◌, ◌+◌, ◌≤◌, eqb, length};
+ghost use Rattle.std.specs.Prelude.{◌≡◌, true, false, [], ◌∷◌, ◌++◌, ◌+◌, ◌≤◌, eqb, length, Ok};
 ghost use Rattle.scalars.specs.Utf8.{chars_of};
 ghost use Rattle.page.specs.Page.{accepted};
-ghost use Rattle.check_char.specs.declared.Checked.TheVariants.{Ok};
 ghost use Rattle.check_char.specs.Check.{error_numbers, reason_numbers};
 ghost use Rattle.isolate_unassigned.specs.Meaning.{joiner};
 ghost use Rattle.isolate_unassigned.specs.Inner.{puts, isolate_step_of, after, last_owed};
@@ -13,10 +12,10 @@ ghost use Rattle.text_output.specs.Write.{put_crlf, run_in};
 ghost use Rattle.text_output_write.specs.Inner.{machine_at, pushed, stored, stop_numbers, progress, handed_on, turn_of, isolator_after};
 
 use super::step::is_crlf;
-use super::store::{Place, Pushed, Stop, push};
-use check_char::{BasicTextError, Categorize, Categorized, Checked};
+use super::store::{Place, Stop, Stopped, push};
+use check_char::{BasicTextError, Categorize, Categorized};
 use isolate_unassigned::{IsolateUnassigned, Isolated};
-use scalars::{CGJ, Utf8Step, utf8_step};
+use scalars::{CGJ, utf8_step};
 use text_output::{Ground, Mode, State};
 
 // ---- before a character
@@ -33,8 +32,7 @@ fn look_ahead(page: &[u32], isolator: IsolateUnassigned, c: u32) -> Ahead
     ensures put_value { result.put ≡ puts page.now isolator c }
     ensures isolator_value { result.isolator ≡ after (isolate_step_of page.now isolator c) }
 {
-    let isolated = isolator.step(page, c);
-    match isolated {
+    match isolator.step(page, c) {
         Isolated::One(_, next) => Ahead {
             put: false,
             isolator: next,
@@ -47,7 +45,13 @@ fn look_ahead(page: &[u32], isolator: IsolateUnassigned, c: u32) -> Ahead
 }
 
 // 34F, where it is put. Inner, as `push`.
-fn push_joiner(mode: Mode, w: Place, put: bool, escape: &mut [u32; 64], out: &mut [u32]) -> Pushed
+fn push_joiner(
+    mode: Mode,
+    w: Place,
+    put: bool,
+    escape: &mut [u32; 64],
+    out: &mut [u32],
+) -> Result<Place, Stopped>
     requires sound { sound (machine_at w escape.old) ≡ true }
     requires room { w.at + length (pushed (steps_of mode (machine_at w escape.old) [] (joiner put))) ≤ length out.old }
     ensures { progress result escape.new out.new
@@ -56,7 +60,7 @@ fn push_joiner(mode: Mode, w: Place, put: bool, escape: &mut [u32; 64], out: &mu
     if put {
         push(mode, w, CGJ, escape, out)
     } else {
-        Pushed::On(w)
+        Ok(w)
     }
 }
 
@@ -84,13 +88,12 @@ fn handed_on(found: Categorized) -> u32
 
 // The reason that the record keeps. Inner: asks for one, which stands behind every 1A: the Rust's `unwrap`.
 fn reason_in(kept: Categorize) -> BasicTextError
-    requires { kept.error ≡ Ok → ⊥ }
+    requires { kept.error ≡ Ok tt → ⊥ }
     ensures { error_numbers result ≡ reason_numbers kept.error }
 {
-    let error = kept.error;
-    match error {
-        Checked::Err(e) => e,
-        Checked::Ok => BasicTextError::UnrecognizedEscape,
+    match kept.error {
+        Err(e) => e,
+        Ok(()) => BasicTextError::UnrecognizedEscape,
     }
 }
 
@@ -102,18 +105,15 @@ fn push_isolated(
     c: u32,
     escape: &mut [u32; 64],
     out: &mut [u32],
-) -> Pushed
+) -> Result<Place, Stopped>
     requires sub { eqb c 0x1A ≡ false }
     requires sound { sound (machine_at w escape.old) ≡ true }
     requires room { w.at + length (pushed (steps_of mode (machine_at w escape.old) [] (joiner put ++ c ∷ []))) ≤ length out.old }
     ensures { progress result escape.new out.new
         ≡ stored w.at out.old (steps_of mode (machine_at w escape.old) [] (joiner put ++ c ∷ [])) }
 {
-    let before = push_joiner(mode, w, put, escape, out);
-    match before {
-        Pushed::On(next) => push(mode, next, c, escape, out),
-        Pushed::Stopped(_, _) => before,
-    }
+    let next = push_joiner(mode, w, put, escape, out)?;
+    push(mode, next, c, escape, out)
 }
 
 // 34F, where it is put, and then 1A, which stops. Inner, as `push`, and asks for a kept reason.
@@ -124,52 +124,48 @@ fn stop_isolated(
     kept: Categorize,
     escape: &mut [u32; 64],
     out: &mut [u32],
-) -> Pushed
-    requires kept { kept.error ≡ Ok → ⊥ }
+) -> Result<Place, Stopped>
+    requires kept { kept.error ≡ Ok tt → ⊥ }
     requires sound { sound (machine_at w escape.old) ≡ true }
     requires room { w.at + length (pushed (steps_of mode (machine_at w escape.old) (reason_numbers kept.error) (joiner put ++ 0x1A ∷ []))) ≤ length out.old }
     ensures { progress result escape.new out.new
         ≡ stored w.at out.old (steps_of mode (machine_at w escape.old) (reason_numbers kept.error) (joiner put ++ 0x1A ∷ [])) }
 {
-    let before = push_joiner(mode, w, put, escape, out);
-    match before {
-        Pushed::On(next) => {
-            let state = next.state;
-            Pushed::Stopped(next, stop_in(state, reason_in(kept)))
-        }
-        Pushed::Stopped(_, _) => before,
-    }
+    let place = push_joiner(mode, w, put, escape, out)?;
+    let stop = stop_in(place.state, reason_in(kept));
+    Err(Stopped { place, stop })
 }
 
 // ---- the end of a line
 // 34F, where it is owed, and then 0D 0A, from any state. Inner, as `push`.
-fn line_end(mode: Mode, w: Place, owed: bool, escape: &mut [u32; 64], out: &mut [u32]) -> Pushed
+fn line_end(
+    mode: Mode,
+    w: Place,
+    owed: bool,
+    escape: &mut [u32; 64],
+    out: &mut [u32],
+) -> Result<Place, Stopped>
     requires sound { sound (machine_at w escape.old) ≡ true }
     requires room { w.at + length (pushed (and_then (steps_of mode (machine_at w escape.old) [] (joiner owed)) put_crlf)) ≤ length out.old }
     ensures { progress result escape.new out.new
         ≡ stored w.at out.old (and_then (steps_of mode (machine_at w escape.old) [] (joiner owed)) put_crlf) }
 {
-    let before = push_joiner(mode, w, owed, escape, out);
-    match before {
-        Pushed::On(next) => {
-            let at = next.at;
-            out[at] = 0xd;
-            out[at + 1] = 0xa;
-            Pushed::On(Place {
-                state: State::Ground(Ground::Newline),
-                held: 0,
-                at: at + 2,
-            })
-        }
-        Pushed::Stopped(_, _) => before,
-    }
+    let next = push_joiner(mode, w, owed, escape, out)?;
+    let at = next.at;
+    out[at] = 0xd;
+    out[at + 1] = 0xa;
+    Ok(Place {
+        state: State::Ground(Ground::Newline),
+        held: 0,
+        at: at + 2,
+    })
 }
 
 // ---- a turn
 // What a turn came to, and the isolator after it.
 #[derive(Clone, Copy)]
 pub struct Turned {
-    pub pushed: Pushed,
+    pub pushed: Result<Place, Stopped>,
     pub isolator: IsolateUnassigned,
 }
 
@@ -198,15 +194,14 @@ pub fn turn(
     } else {
         let found = Categorize::new().step(c);
         let ahead = look_ahead(page, isolator, handed_on(found));
-        let next = ahead.isolator;
         match found {
             Categorized::Char(same, _) => Turned {
                 pushed: push_isolated(mode, w, ahead.put, same, escape, out),
-                isolator: next,
+                isolator: ahead.isolator,
             },
             Categorized::Sub(_, kept) => Turned {
                 pushed: stop_isolated(mode, w, ahead.put, kept, escape, out),
-                isolator: next,
+                isolator: ahead.isolator,
             },
         }
     }
@@ -219,7 +214,7 @@ pub fn finish(
     isolator: IsolateUnassigned,
     escape: &mut [u32; 64],
     out: &mut [u32],
-) -> Pushed
+) -> Result<Place, Stopped>
     requires sound { sound (machine_at w escape.old) ≡ true }
     requires room { w.at + length (pushed (steps_of mode (machine_at w escape.old) [] (last_owed isolator))) ≤ length out.old }
     ensures { progress result escape.new out.new
@@ -237,7 +232,7 @@ pub fn run(
     chars: &[u32],
     escape: &mut [u32; 64],
     out: &mut [u32],
-) -> Pushed
+) -> Result<Place, Stopped>
     requires page { accepted page.now ≡ true }
     requires sound { sound (machine_at start escape.old) ≡ true }
     requires room { start.at + length (pushed (run_in mode page.now (machine_at start escape.old) chars.now)) ≤ length out.old }
@@ -246,21 +241,10 @@ pub fn run(
 {
     let mut w = start;
     let mut isolator = IsolateUnassigned::new();
-    let mut i = 0;
-    while i < chars.len() {
-        let turned = turn(page, mode, w, isolator, chars[i], escape, out);
-        let pushed = turned.pushed;
-        let after = turned.isolator;
-        i += 1;
-        match pushed {
-            Pushed::On(next) => {
-                w = next;
-                isolator = after;
-            }
-            Pushed::Stopped(_, _) => {
-                return pushed;
-            }
-        }
+    for &c in chars {
+        let turned = turn(page, mode, w, isolator, c, escape, out);
+        w = turned.pushed?;
+        isolator = turned.isolator;
     }
     finish(mode, w, isolator, escape, out)
 }
@@ -273,7 +257,7 @@ pub fn run_bytes(
     bytes: &[u8],
     escape: &mut [u32; 64],
     out: &mut [u32],
-) -> Pushed
+) -> Result<Place, Stopped>
     requires page { accepted page.now ≡ true }
     requires sound { sound (machine_at start escape.old) ≡ true }
     requires room { start.at + length (pushed (run_in mode page.now (machine_at start escape.old) (chars_of bytes.now))) ≤ length out.old }
@@ -283,23 +267,12 @@ pub fn run_bytes(
     let mut w = start;
     let mut isolator = IsolateUnassigned::new();
     let mut place = 0;
-    loop {
-        let Utf8Step::Char(c, next_place) = utf8_step(bytes, place) else {
-            break;
-        };
+    // No index: the step answers the place after a character.
+    while let Some((c, next_place)) = utf8_step(bytes, place) {
         place = next_place;
         let turned = turn(page, mode, w, isolator, c, escape, out);
-        let pushed = turned.pushed;
-        let after = turned.isolator;
-        match pushed {
-            Pushed::On(next) => {
-                w = next;
-                isolator = after;
-            }
-            Pushed::Stopped(_, _) => {
-                return pushed;
-            }
-        }
+        w = turned.pushed?;
+        isolator = turned.isolator;
     }
     finish(mode, w, isolator, escape, out)
 }

@@ -11,7 +11,7 @@ use stretch::put_run;
 use text_output::{Ground, Mode, State, Step};
 
 // What steps change, without the held characters, and the place for the next character to hand out.
-#[derive(Clone, Copy)]
+#[derive(Clone, Copy, Debug, PartialEq, Eq)]
 pub struct Place {
     pub state: State,
     pub held: usize,
@@ -19,34 +19,46 @@ pub struct Place {
 }
 
 // Why a step is refused: by 4, for this reason, or by 6.
-#[derive(Clone, Copy)]
+#[derive(Clone, Copy, Debug, PartialEq, Eq)]
 pub enum Stop {
     Reason(BasicTextError),
     Limit,
 }
 
-// Where the steps stand: they go on, or one is refused.
-#[derive(Clone, Copy)]
-pub enum Pushed {
-    On(Place),
-    Stopped(Place, Stop),
+// A step that is refused: where the steps stand, and why.
+#[derive(Clone, Copy, Debug, PartialEq, Eq)]
+pub struct Stopped {
+    pub place: Place,
+    pub stop: Stop,
+}
+
+impl Stopped {
+    fn new(place: Place, stop: Stop) -> Self
+        ensures { (result.place ≡ place) × (result.stop ≡ stop) }
+    {
+        Stopped { place, stop }
+    }
 }
 
 // One character that is no 1A. Inner: asks for a held count that the state can have, and for room.
-pub fn push(mode: Mode, w: Place, c: u32, escape: &mut [u32; 64], out: &mut [u32]) -> Pushed
+pub fn push(
+    mode: Mode,
+    w: Place,
+    c: u32,
+    escape: &mut [u32; 64],
+    out: &mut [u32],
+) -> Result<Place, Stopped>
     requires sub { eqb c 0x1A ≡ false }
     requires sound { sound (machine_at w escape.old) ≡ true }
     requires room { w.at + length (pushed (write_step_of mode (machine_at w escape.old) [] c)) ≤ length out.old }
     ensures { progress result escape.new out.new ≡ stored w.at out.old (write_step_of mode (machine_at w escape.old) [] c) }
 {
-    let state = w.state;
     let held = w.held;
     let at = w.at;
-    let asked = state_machine_char(state, mode, held, c);
-    match asked {
+    match state_machine_char(w.state, mode, held, c) {
         Step::Out(ground) => {
             out[at] = c;
-            Pushed::On(Place {
+            Ok(Place {
                 state: State::Ground(ground),
                 held: 0,
                 at: at + 1,
@@ -54,7 +66,7 @@ pub fn push(mode: Mode, w: Place, c: u32, escape: &mut [u32; 64], out: &mut [u32
         }
         Step::Hold(next) => {
             escape[held] = c;
-            Pushed::On(Place {
+            Ok(Place {
                 state: next,
                 held: held + 1,
                 at,
@@ -64,14 +76,17 @@ pub fn push(mode: Mode, w: Place, c: u32, escape: &mut [u32; 64], out: &mut [u32
             let all = &escape[..];
             put_run(&all[0..held], out, at);
             out[at + held] = c;
-            Pushed::On(Place {
+            Ok(Place {
                 state: State::Ground(Ground::Other),
                 held: 0,
                 at: at + held + 1,
             })
         }
-        Step::NoColor => Pushed::Stopped(w, Stop::Reason(BasicTextError::Escape)),
-        Step::Unrecognized => Pushed::Stopped(w, Stop::Reason(BasicTextError::UnrecognizedEscape)),
-        Step::Full => Pushed::Stopped(w, Stop::Limit),
+        Step::NoColor => Err(Stopped::new(w, Stop::Reason(BasicTextError::Escape))),
+        Step::Unrecognized => Err(Stopped::new(
+            w,
+            Stop::Reason(BasicTextError::UnrecognizedEscape),
+        )),
+        Step::Full => Err(Stopped::new(w, Stop::Limit)),
     }
 }

@@ -10,11 +10,10 @@ use Rattle.text_output_write.proofs.Rest.{steps_joined}
 use Rattle.text_output_write.proofs.Stays.{steps_stay}
 use Rattle.text_output_write.proofs.Progress.{on_then, off_then, first_fits, next_sound, next_room}
 use borrow.Author.Rules.{rules}
-use Rattle.text_output_write.proofs.run.push_isolated.Statement.{statement}
-use Rattle.text_output_write.proofs.run.push_isolated.Tie as tie
+use Rattle.text_output_write.proofs.run.push_isolated.Goals as goal
 
-push-joiner-requires : tie.Need-push_joiner-before-requires
-push-joiner-requires c κs =
+pub push_joiner-before-requires : goal.push_joiner-before-requires
+push_joiner-before-requires c =
     let a = c.args in
     let p = c.requires in
     let m = machine_at a.w a.escape.now in
@@ -23,8 +22,8 @@ push-joiner-requires c κs =
     let room = rw (steps_joined a.mode a.put m [] a.c) at p.1.1 in
     (p.1.0, omega (arith, room, first_fits first more))
 
-push-requires : tie.Need-push-requires
-push-requires c κs =
+pub push-requires : goal.push-requires
+push-requires c =
     let a = c.args in
     let p = c.requires in
     let m = machine_at a.w a.escape.now in
@@ -37,11 +36,11 @@ push-requires c κs =
       (next_sound a.w a.escape.now a.out.now first _ stays _ _ _ e, next_room a.w a.escape.now a.out.now first _ stays _ _ _ e more room),
     )
 
-enum_told : tie.Need-enum_told-1
-enum_told c = search rules
+pub enum_told-1 : goal.enum_told-1
+enum_told-1 c = search rules
 
-returns : tie.Need-returns-in-On
-returns c =
+pub returns-in-On : goal.returns-in-On
+returns-in-On c =
     let a = c.args in
     let m = machine_at a.w a.escape.now in
     let first = steps_of a.mode m [] (joiner a.put) in
@@ -50,8 +49,8 @@ returns c =
     rw (steps_joined a.mode a.put m [] a.c)
     (c.push.ensures ∙ on_then a.w.at a.out.now more first _ _ _ e)
 
-returns-2 : tie.Need-returns-in-Stopped
-returns-2 c =
+pub returns-in-Stopped : goal.returns-in-Stopped
+returns-in-Stopped c =
     let a = c.args in
     let m = machine_at a.w a.escape.now in
     let first = steps_of a.mode m [] (joiner a.put) in
@@ -59,16 +58,3 @@ returns-2 c =
     let e = rw c.in-Stopped.is at c.push_joiner-before.ensures in
     rw (steps_joined a.mode a.put m [] a.c, c.in-Stopped.is)
     (off_then a.w.at a.out.now more first _ c.in-Stopped.field-1 _ _ e)
-
-pub push_isolated_spec : {M : Type 1} → statement M
-push_isolated_spec =
-    tie.close
-    (tie.spec
-    push-joiner-requires
-    (λ c. search rules)
-    push-requires
-    enum_told
-    (λ c. search rules)
-    returns
-    (λ c. search rules)
-    returns-2)

@@ -11,11 +11,10 @@ use Rattle.text_output_write.proofs.Rest.{steps_joined}
 use Rattle.text_output_write.proofs.Turns.{stop_stored}
 use Rattle.text_output_write.proofs.Progress.{on_then, off_then, first_fits}
 use borrow.Author.Rules.{rules}
-use Rattle.text_output_write.proofs.run.stop_isolated.Statement.{statement}
-use Rattle.text_output_write.proofs.run.stop_isolated.Tie as tie
+use Rattle.text_output_write.proofs.run.stop_isolated.Goals as goal
 
-push-joiner-requires : tie.Need-push_joiner-before-requires
-push-joiner-requires c κs =
+pub push_joiner-before-requires : goal.push_joiner-before-requires
+push_joiner-before-requires c =
     let a = c.args in
     let p = c.requires in
     let error = reason_numbers a.kept.error in
@@ -25,11 +24,11 @@ push-joiner-requires c κs =
     let room = rw (steps_joined a.mode a.put m error 0x1A) at p.1.1 in
     (p.1.0, omega (arith, room, first_fits first more))
 
-enum_told : tie.Need-enum_told-1
-enum_told c = search rules
+pub enum_told-1 : goal.enum_told-1
+enum_told-1 c = search rules
 
-returns : tie.Need-returns-in-On
-returns c =
+pub returns-in-On : goal.returns-in-On
+returns-in-On c =
     let a = c.args in
     let error = reason_numbers a.kept.error in
     let m = machine_at a.w a.escape.now in
@@ -40,8 +39,8 @@ returns c =
     rw (steps_joined a.mode a.put m error 0x1A)
     (stop_stored a.mode _ _ _ error c.stop_in.result s ∙ on_then a.w.at a.out.now more first _ _ _ e)
 
-returns-2 : tie.Need-returns-in-Stopped
-returns-2 c =
+pub returns-in-Stopped : goal.returns-in-Stopped
+returns-in-Stopped c =
     let a = c.args in
     let error = reason_numbers a.kept.error in
     let m = machine_at a.w a.escape.now in
@@ -50,17 +49,3 @@ returns-2 c =
     let e = rw c.in-Stopped.is at c.push_joiner-before.ensures in
     rw (steps_joined a.mode a.put m error 0x1A, c.in-Stopped.is)
     (off_then a.w.at a.out.now more first _ c.in-Stopped.field-1 _ _ e)
-
-pub stop_isolated_spec : {M : Type 1} → statement M
-stop_isolated_spec =
-    tie.close
-    (tie.spec
-    push-joiner-requires
-    (λ c. search rules)
-    (λ c κs. search rules)
-    (λ c κs. search rules)
-    enum_told
-    (λ c. search rules)
-    returns
-    (λ c. search rules)
-    returns-2)

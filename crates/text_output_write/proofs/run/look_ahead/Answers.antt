@@ -2,20 +2,14 @@
 use mathlib.Core.Path.{sym, ◌∙◌, ap}
 use Rattle.isolate_unassigned.specs.Inner.{after}
 use Rattle.text_output_write.proofs.Turns.{puts_two}
-use borrow.Author.Rules.{rules}
-use Rattle.text_output_write.proofs.run.look_ahead.Statement.{statement}
-use Rattle.text_output_write.proofs.run.look_ahead.Tie as tie
+use Rattle.text_output_write.proofs.run.look_ahead.Goals as goal
 
-returns : tie.Need-returns-in-One
-returns c =
+pub returns-in-One : goal.returns-in-One
+returns-in-One c =
     let e = sym c.step-isolated.ensures ∙ c.in-One.is in
     (puts_two _ _ _ _ e, sym (ap after e))
 
-returns-2 : tie.Need-returns-in-Two
-returns-2 c =
+pub returns-in-Two : goal.returns-in-Two
+returns-in-Two c =
     let e = sym c.step-isolated.ensures ∙ c.in-Two.is in
     (puts_two _ _ _ _ e, sym (ap after e))
-
-pub look_ahead_spec : {M : Type 1} → statement M
-look_ahead_spec =
-    tie.close (tie.spec (λ c κs. search rules) (λ c. search rules) (λ c. search rules) returns returns-2)
