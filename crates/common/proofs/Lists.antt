@@ -6,13 +6,15 @@
 --     take_sets     stores from i on leave the places before it
 --     drop_sets     stores before n leave the places from n on
 --     rest_is       what is behind a place, as a slice has it
+--     sets_part     a part of as many places that is written over
 use mathlib.Core.Path.{◌≡◌, refl, sym, ◌∙◌}
-use mathlib.Core.List.{List, [], ◌∷◌, ◌++◌}
+use mathlib.Core.List.{List, [], ◌∷◌, ◌++◌, append_assoc}
 use Prim.Native.Nat.{ℕ, suc, ◌+◌, ◌-◌, ◌≤◌}
 use native.Mathlib.Nat.{add-zero, zero-add, add-suc, suc-add}
 use native.Mathlib.Omega.{arith}
+use borrow.Rule.Slice.PartMut.{put_mid}
 use lib.ListN.{length, set, take, drop, length-drop}
-use lib.Seq.{sets, sets-eq, take-set-le, drop-set-lt, take_at, take_all}
+use lib.Seq.{sets, sets-eq, take-set-le, drop-set-lt, take_at, take_all, drop-drop}
 
 pub sets_append : (vs ws l : List ℕ) (i : ℕ) → sets l i (vs ++ ws) ≡ sets (sets l i vs) (i + length vs) ws
 sets_append [] ws l i = rw add-zero
@@ -38,3 +40,6 @@ drop_sets n l i (v ∷ vs) h = drop_sets n (set l i v) (suc i) vs (omega arith) 
 
 pub rest_is : (l : List ℕ) (s : ℕ) → take (length l - s) (drop s l) ≡ drop s l
 rest_is l s = take_all (length l - s) (drop s l) (omega (arith, length-drop s l))
+
+pub sets_part : (vs l : List ℕ) (i k : ℕ) → i + length vs ≤ length l → k ≡ length vs → put_mid i k l vs ≡ sets l i vs
+sets_part vs l i k h e = rw (e, drop-drop) (sym (sets-eq vs l i h ∙ append_assoc (take i l) vs (drop (i + length vs) l)))

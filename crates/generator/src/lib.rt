@@ -3,7 +3,7 @@
 // the comparison's oracle is plain Rust arithmetic.
 #![tactic(auto)]
 
-ghost use Rattle.std.specs.Prelude.{◌≡◌, ◌*◌, ◌%◌, ◌^◌};
+ghost use Rattle.std.specs.Prelude.{◌≡◌};
 ghost use Rattle.generator.specs.Generator.{next_of, back_of, fill_places, fill_state};
 
 // A step multiplies by the first and adds the second. The third undoes the first: their product is 1 modulo 2^32.
@@ -20,26 +20,18 @@ const LISTED: [u32; 32] = [
     0x7F, 0x40, 0x3F, 0x7E, 0x9,
 ];
 
-// The product's low 32 bits. "A wrapping 32-bit multiply helper with the supplied wrapping add"
-fn wrapping_mul(a: u32, b: u32) -> u32
-    ensures { result ≡ (a * b) % 2 ^ 32 }
-{
-    let wide = (a as u64) * (b as u64);
-    (wide % 0x1_0000_0000) as u32
-}
-
-// The state after a step. Total.
+// The state after a step, modulo 2^32 as the methods have it. Total.
 pub fn next(state: u32) -> u32
     ensures { result ≡ next_of state }
 {
-    std::num::wrapping_add_u32(wrapping_mul(FACTOR, state), ADDEND)
+    FACTOR.wrapping_mul(state).wrapping_add(ADDEND)
 }
 
 // The state before: a step from it leads to this one, and from no other. "its inverse gives the backward step" Total.
 pub fn back(state: u32) -> u32
     ensures { result ≡ back_of state }
 {
-    wrapping_mul(INVERSE, std::num::wrapping_sub_u32(state, ADDEND))
+    INVERSE.wrapping_mul(state.wrapping_sub(ADDEND))
 }
 
 // Fills every place, a step for each, and hands back the state after the last. A part that is filled from there goes on as the whole would.
@@ -51,11 +43,9 @@ pub fn fill(state: u32, out: &mut [u32]) -> u32
 {
     let listed = LISTED;
     let mut at = state;
-    let mut i = 0;
-    while i < out.len() {
+    for place in out.iter_mut() {
         at = next(at);
-        out[i] = listed[(at >> 27) as usize];
-        i += 1;
+        *place = listed[(at >> 27) as usize];
     }
     at
 }

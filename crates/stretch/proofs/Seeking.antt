@@ -4,13 +4,18 @@
 --     first_within         the first of two ranges, in both
 --     nothing              an empty stretch
 --     one_more             a stretch and places behind it
+--     counted              as many as are sought of the next
 --     four                 four stretches one behind the other, the second of what is likeliest
-use Prim.Native.Nat.{ℕ, ◌≤◌}
-use mathlib.Core.Path.{◌≡◌, refl, sym, ◌∙◌}
+use Prim.Native.Nat.{ℕ, ◌+◌, ◌-◌, ◌≤◌}
+use mathlib.Core.Path.{◌≡◌, refl, sym, ap, ◌∙◌}
 use mathlib.Core.Bool.{Bool, true, false, ◌||◌, or-true}
 use mathlib.Core.List.{List}
 use native.Mathlib.Omega.{arith}
-use lib.ListN.{length, get_or}
+use lib.ListN.{length, get_or, take, drop, length-take}
+use lib.Seq.{get_or-take, get_or-drop}
+use Rattle.std.specs.List.{prefix_len}
+use Rattle.std.proofs.lemmas.List.Sums.{prefix_len-le-length, prefix_len_passes}
+use Rattle.std.proofs.lemmas.List.Folds.{length-prefix_len}
 use Rattle.common.proofs.Kit.{never}
 use Rattle.ranges.specs.declared.Range.{Range}
 use Rattle.ranges.specs.Inner.{no_range, in_range}
@@ -59,6 +64,28 @@ module _ (q : Sought) (s : List ℕ) where
 
   pub one_more : (f m t : ℕ) → Stretch q s f m → m ≤ t → t ≤ length s → Each q s m t → Stretch q s f t
   one_more f m t a on low each = behind f m t a (record { on = on; low = low; each = each })
+
+  pub counted : (f most n : ℕ) → f ≤ length s
+      → (let next = take most (take (length s - f) (drop f s)) in n ≡ length (take (prefix_len (in_sought q) next) next))
+      → Stretch q s f (f + n)
+  counted f most n l e =
+      let left = take (length s - f) (drop f s) in
+      let next = take most left in
+      let p : n ≡ prefix_len (in_sought q) next = e ∙ length-prefix_len (in_sought q) next in
+      let h : n ≤ length next = omega (arith, prefix_len-le-length (in_sought q) next) in
+      let m : length next ≤ most = omega (arith, length-take most left) in
+      let k : length next ≤ length s - f = omega (arith, length-take most left, length-take (length s - f) (drop f s)) in
+      record {
+        on = omega arith;
+        low = omega arith;
+        each = λ x a b.
+            let same : get_or next (x - f) 0 ≡ get_or s x 0 =
+            get_or-take most left (x - f) 0 (omega arith)
+            ∙ get_or-take (length s - f) (drop f s) (x - f) 0 (omega arith)
+            ∙ get_or-drop f s (x - f) 0
+            ∙ ap (λ i. get_or s i 0) (omega arith) in
+            rw same at (prefix_len_passes (in_sought q) next (x - f) 0 (omega arith));
+      }
 
   pub four : (n : Sought) → Within n q → (f a b c d : ℕ) → Stretch q s f a → Stretch n s a b → Stretch q s b c → Stretch q s c d → Stretch q s f d
   four n w f a b c d x y z u =

@@ -12,7 +12,6 @@ ghost use Rattle.std.proofs.lemmas.List.Edits.{sets};
 ghost use Rattle.stretch.specs.Plain.{ascii_or};
 ghost use Rattle.stretch.specs.Stretch.{in_sought, either_of, Each, Stretch};
 
-use common::lesser;
 pub use gaps::{first_gap, next_gap};
 use ranges::{Range, in_range, no_range};
 
@@ -53,6 +52,7 @@ pub fn either(one: Range, two: Range) -> Sought
 }
 
 // Whether c, any number, is sought. Total.
+#[tactic(auto, unfolding(crate::specs::Stretch::in_gap))]
 pub fn is_sought(sought: Sought, c: u32) -> bool
     ensures { result ≡ in_sought sought c }
 {
@@ -61,33 +61,30 @@ pub fn is_sought(sought: Sought, c: u32) -> bool
         | in_range(sought.gap, c) & (c != 0x149) & (c != 0x673)
 }
 
-// Whether the 16 from a place on are sought. The loop has no early exit, so that it can be vectorised.
-fn block(s: &[u32], at: usize, sought: Sought) -> bool
-    requires { at + 16 ≤ length s.now }
-    ensures { result ≡ true → Each sought s.now at (at + 16) }
+// Whether all of a block are sought. The fold has no early exit, so that it can be vectorised.
+fn block(block: &[u32], sought: Sought) -> bool
+    ensures { result ≡ true → Each sought block.now 0 (length block.now) }
 {
-    let mut good = true;
-    let mut j = at;
-    while j < at + 16 {
-        good = good & is_sought(sought, s[j]);
-        j += 1;
-    }
-    good
+    block
+        .iter()
+        .fold(true, |good, &c| good & is_sought(sought, c))
 }
 
-// A place up to which all from `from` on are sought, by blocks.
+// A place up to which all from `from` on are sought, by blocks. Compiled into each caller: there most of the ranges are numbers, by
+// which the tests of a block are unrolled. As a call it would take twice as long.
+#[inline(always)]
 fn blocks(s: &[u32], from: usize, sought: Sought) -> usize
     requires { from ≤ length s.now }
     ensures { Stretch sought s.now from result }
 {
-    let mut i = from;
-    while 16 <= s.len() - i {
-        if !block(s, i, sought) {
-            return i;
+    let mut end = from;
+    for part in s[from..].chunks_exact(16) {
+        if !block(part, sought) {
+            return end;
         }
-        i += 16;
+        end += 16;
     }
-    i
+    end
 }
 
 // The same, one by one, and at most so many.
@@ -95,15 +92,8 @@ fn few(s: &[u32], from: usize, most: usize, sought: Sought) -> usize
     requires { from ≤ length s.now }
     ensures { Stretch sought s.now from result }
 {
-    let stop = from + lesser(s.len() - from, most);
-    let mut i = from;
-    while i < stop {
-        if !is_sought(sought, s[i]) {
-            return i;
-        }
-        i += 1;
-    }
-    i
+    let next = s[from..].iter().take(most);
+    from + next.take_while(|c| is_sought(sought, **c)).count()
 }
 
 // The end of a stretch of ASCII and a gap: a few one by one, so that a short stretch costs no block; blocks of what is likeliest, ASCII
@@ -143,9 +133,5 @@ pub fn put_run(run: &[u32], out: &mut [u32], at: usize)
     requires { at + length run.now ≤ length out.old }
     ensures { out.new ≡ sets out.old at run.now }
 {
-    let mut j = 0;
-    while j < run.len() {
-        out[at + j] = run[j];
-        j += 1;
-    }
+    out[at..at + run.len()].copy_from_slice(run);
 }
