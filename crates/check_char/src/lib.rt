@@ -237,14 +237,14 @@ pub fn check(units: bool, c: u32) -> Result<(), CheckError>
 }
 
 // The record of `Categorize`: the reason for which a character was last refused, the Rust's shared cell.
-#[derive(Clone, Copy)]
+#[derive(Clone, Copy, Debug, PartialEq, Eq)]
 pub struct Categorize {
     pub error: Result<(), BasicTextError>,
 }
 
 // The character that is handed on, as it came or SUB, 1A, in its place; with the record after, which keeps the reason.
 // "The iterator chain with `Rc<RefCell>`: records by value whose step answers an enum."
-#[derive(Clone, Copy)]
+#[derive(Clone, Copy, Debug, PartialEq, Eq)]
 pub enum Categorized {
     Char(u32, Categorize),
     Sub(u32, Categorize),

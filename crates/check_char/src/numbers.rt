@@ -7,7 +7,7 @@ use super::BasicTextError;
 
 // How many numbers the reason has, 1, 2 or 6, and these: its own, the character that it names, and how many replacements and which;
 // each 0 where there is none.
-#[derive(Clone, Copy)]
+#[derive(Clone, Copy, Debug, PartialEq, Eq)]
 pub struct Reason {
     pub size: usize,
     pub number: u32,

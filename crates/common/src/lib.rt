@@ -1,8 +1,8 @@
-// What all crates share and none owns: the refusals by name, and the lesser of two.
+// What all crates share and none owns: the refusals by name.
 // The definitions write the refusals' numbers, as the documents list them, and the code these names.
 #![tactic(auto)]
 
-ghost use Rattle.std.specs.Prelude.{◌≡◌, ◌≤◌};
+ghost use Rattle.std.specs.Prelude.{◌≡◌};
 ghost use Rattle.common.specs.Answers.{refusal_number};
 
 use std::error::Error;
@@ -92,10 +92,3 @@ impl fmt::Display for Refusal {
 }
 
 impl Error for Refusal {}
-
-// The lesser of the two; the contract says no more than is asked. Inner; total.
-pub fn lesser(a: usize, b: usize) -> usize
-    ensures { (result ≤ a) × (result ≤ b) }
-{
-    if a < b { a } else { b }
-}

@@ -21,7 +21,7 @@ use stretch::{either, either_end, is_sought, put_run};
 use text_utils::is_private_use_area;
 
 // Puts 34F around unassigned characters.
-#[derive(Clone, Copy)]
+#[derive(Clone, Copy, Debug, PartialEq, Eq)]
 pub struct IsolateUnassigned {
     // 34F was put before the last character, and is owed after it.
     pub need_cgj: bool,
@@ -31,7 +31,7 @@ pub struct IsolateUnassigned {
 
 // What a step gives out, and the record after: the character alone, or 34F and the character.
 // "The iterator chain with `Rc<RefCell>`: records by value whose step answers an enum."
-#[derive(Clone, Copy)]
+#[derive(Clone, Copy, Debug, PartialEq, Eq)]
 pub enum Isolated {
     One(u32, IsolateUnassigned),
     Two(u32, u32, IsolateUnassigned),

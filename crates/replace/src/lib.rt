@@ -10,7 +10,7 @@ use common::Refusal;
 use scalars::{BOM, FF, LS, NEL, ORC, PS, REPL, WJ, is_char};
 
 // One to three characters.
-#[derive(Clone, Copy)]
+#[derive(Clone, Copy, Debug, PartialEq, Eq)]
 pub enum Replaced {
     One(u32),
     Two(u32, u32),

@@ -91,7 +91,7 @@ pub fn utf8_step(bytes: &[u8], at: usize) -> Option<(u32, usize)>
 }
 
 // How many characters, and how many bytes they take.
-#[derive(Clone, Copy)]
+#[derive(Clone, Copy, Debug, PartialEq, Eq)]
 pub struct Prefix {
     pub chars: usize,
     pub bytes: usize,

@@ -16,7 +16,7 @@ pub use gaps::{first_gap, next_gap};
 use ranges::{Range, in_range, no_range};
 
 // What a stretch is made of: the numbers of two ranges, and those of a third one but 149 and 673.
-#[derive(Clone, Copy)]
+#[derive(Clone, Copy, Debug, PartialEq, Eq)]
 pub struct Sought {
     pub one: Range,
     pub two: Range,

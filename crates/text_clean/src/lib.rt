@@ -34,7 +34,7 @@ use text_input::Options;
 use utf8_lossy::{Out, Pending};
 
 // The cleaner's record: the bytes of a character that a chunk's end cut off, and the text so far.
-#[derive(Clone, Copy)]
+#[derive(Clone, Copy, Debug, PartialEq, Eq)]
 pub struct Cleaner {
     pub pending: Pending,
     pub text: Text,
@@ -56,7 +56,7 @@ pub struct Counts {
 }
 
 // A call's answer, and the record after it.
-#[derive(Clone, Copy)]
+#[derive(Clone, Copy, Debug, PartialEq, Eq)]
 pub struct Cleaned {
     pub answer: Result<Counts, Refusal>,
     pub next: Cleaner,

@@ -11,7 +11,7 @@ use ranges::{Range, in_range};
 use scalars::utf8_step;
 
 // Where a run ends, how many characters it has, and the last of them.
-#[derive(Clone, Copy)]
+#[derive(Clone, Copy, Debug, PartialEq, Eq)]
 pub struct PlainEnd {
     pub at: usize,
     pub chars: usize,

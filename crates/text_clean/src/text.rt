@@ -15,14 +15,14 @@ use text_input::{Options, State, TextInput, is_ground};
 
 // A text so far: the scanner's record, and whether the last character was a 0D that an escape took, which is a lost line end unless 0A
 // follows.
-#[derive(Clone, Copy)]
+#[derive(Clone, Copy, Debug, PartialEq, Eq)]
 pub struct Text {
     pub input: TextInput,
     pub cr: bool,
 }
 
 // What is counted so far: characters read, bytes that U+FFFD stands for, characters dropped, line ends lost.
-#[derive(Clone, Copy, Default)]
+#[derive(Clone, Copy, Debug, PartialEq, Eq, Default)]
 pub struct Tally {
     pub read: usize,
     pub replaced: usize,
@@ -31,7 +31,7 @@ pub struct Tally {
 }
 
 // How far the places are written, the text, and what is counted.
-#[derive(Clone, Copy)]
+#[derive(Clone, Copy, Debug, PartialEq, Eq)]
 pub struct Taken {
     pub at: usize,
     pub text: Text,

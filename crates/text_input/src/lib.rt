@@ -29,7 +29,7 @@ use text_input_parts::refusals;
 use text_input_parts::refusals::refusal;
 
 // What the characters so far leave open. `Ground`: nothing; its flag is true after a newline, and before the first character.
-#[derive(Clone, Copy)]
+#[derive(Clone, Copy, Debug, PartialEq, Eq)]
 pub enum State {
     Ground(bool),
     // After 0D.
@@ -50,7 +50,7 @@ pub enum State {
 
 // Which characters end a line beside 0A and 0D: 85; 2028 and 2029. And "a scanner option under which replacement turns U+2126 into
 // U+03A9, U+212A into U+004B and U+212B into U+00C5".
-#[derive(Clone, Copy)]
+#[derive(Clone, Copy, Debug, PartialEq, Eq)]
 pub struct Options {
     pub nel_compatibility: bool,
     pub lsps_compatibility: bool,
@@ -71,7 +71,7 @@ impl Options {
 }
 
 // The scanner's record. The options, which the Rust keeps here, come with each call.
-#[derive(Clone, Copy)]
+#[derive(Clone, Copy, Debug, PartialEq, Eq)]
 pub struct TextInput {
     pub state: State,
     // A start is expected: in a fresh record, and after a finish.
@@ -85,7 +85,7 @@ pub struct TextInput {
 }
 
 // A call's answer, and the record after it.
-#[derive(Clone, Copy)]
+#[derive(Clone, Copy, Debug, PartialEq, Eq)]
 pub struct Scanned {
     pub answer: Result<usize, Refusal>,
     pub next: TextInput,
@@ -101,7 +101,7 @@ struct Moved {
 }
 
 // What a finish appends, one after the other, and the record after it.
-#[derive(Clone, Copy)]
+#[derive(Clone, Copy, Debug, PartialEq, Eq)]
 pub struct Ending {
     pub lead: Option<u32>,
     pub mark: Option<u32>,
@@ -110,7 +110,7 @@ pub struct Ending {
 }
 
 // How far the queue is written, and the record.
-#[derive(Clone, Copy)]
+#[derive(Clone, Copy, Debug, PartialEq, Eq)]
 pub struct Ran {
     pub written: usize,
     pub next: TextInput,

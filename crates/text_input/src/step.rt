@@ -13,7 +13,7 @@ use text_input_parts::queue::{guard, last_image, last_lead};
 use text_input_parts::sets::{is_final, is_newline_char, is_parameter, is_string_end, up_to_del};
 
 // What a character does to what is pending before it.
-#[derive(Clone, Copy)]
+#[derive(Clone, Copy, Debug, PartialEq, Eq)]
 pub enum Left {
     // It is part of it: it gives nothing and leaves this state.
     Part(State),
@@ -31,7 +31,7 @@ pub enum Left {
 }
 
 // What the ground state does with a character.
-#[derive(Clone, Copy)]
+#[derive(Clone, Copy, Debug, PartialEq, Eq)]
 pub enum Met {
     // It ends a line.
     Line,
@@ -42,7 +42,7 @@ pub enum Met {
 }
 
 // What a step appends, and the record after it.
-#[derive(Clone, Copy)]
+#[derive(Clone, Copy, Debug, PartialEq, Eq)]
 pub struct Step {
     pub lead: Option<u32>,
     pub image: Option<Replaced>,

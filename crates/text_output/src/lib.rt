@@ -66,7 +66,7 @@ pub enum Mode {
 }
 
 // The writer's record.
-#[derive(Clone, Copy)]
+#[derive(Clone, Copy, Debug, PartialEq, Eq)]
 pub struct TextOutput {
     pub mode: Mode,
     // A start is expected: in a fresh record, after a flush that succeeds and after a close.
@@ -81,7 +81,7 @@ pub struct TextOutput {
 }
 
 // A writer, and the character that it hands out on opening.
-#[derive(Clone, Copy)]
+#[derive(Clone, Copy, Debug, PartialEq, Eq)]
 pub struct Opened {
     pub bom: u32,
     pub writer: TextOutput,
@@ -99,14 +99,14 @@ pub enum WriteError {
 }
 
 // A write's answer, the first so many places handed out, and the record after it.
-#[derive(Clone, Copy)]
+#[derive(Clone, Copy, Debug, PartialEq, Eq)]
 pub struct Written {
     pub answer: Result<usize, WriteError>,
     pub next: TextOutput,
 }
 
 // The same of a write of bytes, and how many of them were taken: none where it was refused.
-#[derive(Clone, Copy)]
+#[derive(Clone, Copy, Debug, PartialEq, Eq)]
 pub struct WrittenBytes {
     pub used: usize,
     pub answer: Result<usize, WriteError>,
@@ -123,7 +123,7 @@ pub enum CloseError {
 }
 
 // The answer of a flush or a close, and the record after it.
-#[derive(Clone, Copy)]
+#[derive(Clone, Copy, Debug, PartialEq, Eq)]
 pub struct Answered {
     pub answer: Result<(), CloseError>,
     pub next: TextOutput,

@@ -20,7 +20,7 @@ enum Kind {
 }
 
 // The characters that are put out.
-#[derive(Clone, Copy)]
+#[derive(Clone, Copy, Debug, PartialEq, Eq)]
 pub enum Out {
     Nothing,
     One(u32),
@@ -28,7 +28,7 @@ pub enum Out {
 }
 
 // The record: the pending bytes, those of a character that has begun. `Nothing` is the start of a text.
-#[derive(Clone, Copy)]
+#[derive(Clone, Copy, Debug, PartialEq, Eq)]
 pub enum Pending {
     Nothing,
     One(u8),
@@ -37,7 +37,7 @@ pub enum Pending {
 }
 
 // What a byte comes to: the record after it, the characters put out, and how many bytes are replaced in them.
-#[derive(Clone, Copy)]
+#[derive(Clone, Copy, Debug, PartialEq, Eq)]
 pub struct Stepped {
     pub next: Pending,
     pub out: Out,
@@ -52,7 +52,7 @@ pub struct Counted {
 }
 
 // A call's answer, and the record after it.
-#[derive(Clone, Copy)]
+#[derive(Clone, Copy, Debug, PartialEq, Eq)]
 pub struct Decoded {
     pub answer: Result<Counted, Refusal>,
     pub next: Pending,
