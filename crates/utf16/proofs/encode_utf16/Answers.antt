@@ -4,7 +4,6 @@ use mathlib.Core.Bool.{true, false}
 use mathlib.Core.List.{List, [], ◌∷◌}
 use mathlib.Core.Path.{◌≡◌, refl, sym, ◌∙◌}
 use native.Mathlib.Omega.{arith}
-use borrow.Author.Rules.{rules}
 use borrow.Author.Tests.{le-ltb, lt-ltb}
 use lib.ListN.{length}
 use lib.Seq.{sets}
@@ -12,8 +11,7 @@ use Rattle.scalars.specs.Chars.{are_chars}
 use Rattle.utf16.specs.declared.ByteOrder.{ByteOrder}
 use Rattle.utf16.specs.Utf16.{utf16_of}
 use Rattle.utf16.specs.Entries.{encode_answer, encode_places}
-use Rattle.utf16.proofs.encode_utf16.Statement.{statement}
-use Rattle.utf16.proofs.encode_utf16.Tie as tie
+use Rattle.utf16.proofs.encode_utf16.Goals as goal
 
 module _ (o : ByteOrder) (cs out : List ℕ) where
   abbrev Gives : List ℕ → List ℕ → Type 0
@@ -31,18 +29,17 @@ module _ (o : ByteOrder) (cs out : List ℕ) where
   unfolding encode_answer encode_places
   no_chars s = rw s (refl, refl)
 
-returns : tie.Need-returns-then-chars-out
+pub returns-then-chars-out : goal.returns-then-chars-out
+returns-then-chars-out c =
+    let w = written c.args.order c.args.chars.now c.args.out.now (sym c.are_chars.ensures ∙ c.if-are_chars.true) c.if-chars-out.true in
+    rw (c.put_chars.ensures.0, c.put_chars.ensures.1) (record { answer = w.0; places = w.1 })
+
+pub returns-then-are_chars : goal.returns-then-are_chars
+returns-then-are_chars c =
+    let n = no_room c.args.order c.args.chars.now c.args.out.now (sym c.are_chars.ensures ∙ c.if-are_chars.true) c.if-chars-out.false in
+    record { answer = n.0; places = n.1 }
+
+pub returns : goal.returns
 returns c =
-    rw (c.put_chars.ensures.0, c.put_chars.ensures.1)
-    (written _ _ _ (sym c.are_chars.ensures ∙ c.if-are_chars.true) c.if-chars-out.true)
-
-returns-2 : tie.Need-returns-then-are_chars
-returns-2 c = no_room _ _ _ (sym c.are_chars.ensures ∙ c.if-are_chars.true) c.if-chars-out.false
-
-returns-3 : tie.Need-returns
-returns-3 c = no_chars _ _ _ (sym c.are_chars.ensures ∙ c.if-are_chars.false)
-
-pub encode_utf16_spec : {M : Type 1} → statement M
-encode_utf16_spec =
-    tie.close
-    (tie.spec (λ c κs. search rules) (λ c κs. search rules) (λ c. search rules) returns returns-2 returns-3)
+    let n = no_chars c.args.order c.args.chars.now c.args.out.now (sym c.are_chars.ensures ∙ c.if-are_chars.false) in
+    record { answer = n.0; places = n.1 }
