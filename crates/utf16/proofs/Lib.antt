@@ -3,10 +3,13 @@
 -- order of their refusals.
 pub mod Examples
 pub mod Units
+pub mod Runs
 pub mod Rows
 pub mod Pairs
 pub mod Texts
 pub mod Stretches
+pub mod Stored
+pub mod Putting
 pub mod Places
 pub mod Laws
 pub mod Answers

@@ -37,12 +37,11 @@ pub enum DecodeError {
 fn unit_of(order: ByteOrder, a: u8, b: u8) -> u32
     ensures { (result ≡ unit_of order a b) × (result < 0x10000) }
 {
-    let first = a as u32;
-    let second = b as u32;
-    match order {
-        ByteOrder::Little => first + second * 256,
-        ByteOrder::Big => first * 256 + second,
-    }
+    let unit = match order {
+        ByteOrder::Little => u16::from_le_bytes([a, b]),
+        ByteOrder::Big => u16::from_be_bytes([a, b]),
+    };
+    u32::from(unit)
 }
 
 // The unit at place i, which has two bytes.
@@ -64,69 +63,55 @@ fn unit_or_zero(order: ByteOrder, bytes: &[u8], i: usize) -> u32
 }
 
 // Whether a unit is a surrogate, a high one, a low one. Total.
+#[tactic(auto, using(crate::proofs::Pairs::surrogate_range))]
 fn is_surrogate(u: u32) -> bool
     ensures { result ≡ is_high u || is_low u }
 {
     (0xd800 <= u) & (u <= 0xdfff)
 }
 
+#[tactic(auto, unfolding(crate::specs::Reading::is_high))]
 fn is_high(u: u32) -> bool
     ensures { result ≡ is_high u }
 {
     (0xd800 <= u) & (u <= 0xdbff)
 }
 
+#[tactic(auto, unfolding(crate::specs::Reading::is_low))]
 fn is_low(u: u32) -> bool
     ensures { result ≡ is_low u }
 {
     (0xdc00 <= u) & (u <= 0xdfff)
 }
 
-// True only if none of so many bytes from `at` on is one of D8..DF: every surrogate has one. The loop has no early exit, so that it can
-// be vectorised.
-fn is_plain_block(bytes: &[u8], at: usize, size: usize) -> bool
-    requires { at + size ≤ length bytes.now }
-    ensures { result ≡ true → PlainBytes bytes.now at (at + size) }
+// True only if none of a block's bytes is one of D8..DF: every surrogate has one. The fold has no early exit, so that it can be vectorised.
+fn is_plain_block(block: &[u8]) -> bool
+    ensures { result ≡ true → PlainBytes block.now 0 (length block.now) }
 {
-    let mut good = true;
-    let mut tested = 0;
-    while tested < size {
-        let b = bytes[at + tested];
-        good = good & !((0xd8 <= b) & (b <= 0xdf));
-        tested += 1;
-    }
-    good
+    block
+        .iter()
+        .fold(true, |good, &b| good & !((0xd8 <= b) & (b <= 0xdf)))
 }
 
 // A place up to which no unit from `from` on is a surrogate, in whole blocks of 16; it need not be the last such place. The size of a
-// block is a constant, so that the compiler can unroll the loop of `is_plain_block`.
+// block is a constant, so that the compiler can unroll the fold of `is_plain_block`.
 fn plain_end(bytes: &[u8], from: usize) -> usize
     requires { from ≤ length bytes.now / 2 }
     ensures { PlainTo bytes.now from result }
 {
-    let n = bytes.len() / 2;
-    let mut i = from;
-    while 16 <= n - i {
-        if !is_plain_block(bytes, 2 * i, 32) {
-            return i;
+    let mut end = from;
+    for block in bytes[2 * from..].chunks_exact(32) {
+        if !is_plain_block(block) {
+            return end;
         }
-        i += 16;
+        end += 16;
     }
-    i
+    end
 }
 
-// Where the units or characters that go one by one end, from place i on: 16 of them, or what is left.
-fn steps_end(i: usize, n: usize) -> usize
-    requires { i ≤ n }
-    ensures { (result ≤ n) × (i < n → i < result) }
-{
-    if n - i < 16 {
-        return n;
-    }
-    i + 16
-}
-
-// How many pairs there are, if no surrogate is unpaired. Looks over the units: a stretch without surrogates at once, then some one by one, a pair at once. Total.
+// How many pairs there are, if no surrogate is unpaired. Looks over the units: a stretch without surrogates at once, then up to 16 one by
+// one, a pair at once. Total. The loops stay `while`: a turn of the outer one takes as many units as `plain_end` answers, one of the inner
+// one or two.
 fn look_over(order: ByteOrder, bytes: &[u8]) -> Result<usize, DecodeError>
     ensures { result ≡ found_in (units_in order bytes.now) }
 {
@@ -135,7 +120,7 @@ fn look_over(order: ByteOrder, bytes: &[u8]) -> Result<usize, DecodeError>
     let mut i = 0;
     while i < n {
         i = plain_end(bytes, i);
-        let stop = steps_end(i, n);
+        let stop = n.min(i + 16);
         while i < stop {
             let u = unit_at(order, bytes, i);
             if is_surrogate(u) {
@@ -169,14 +154,13 @@ fn widen(order: ByteOrder, bytes: &[u8], from: usize, end: usize, out: &mut [u32
     requires from_in_bounds { k + (end - from) ≤ length out.old }
     ensures { out.new ≡ sets out.old k (take (end - from) (drop from (units_in order bytes.now))) }
 {
-    let mut j = 0;
-    while j < end - from {
+    for j in 0..end - from {
         out[k + j] = unit_at(order, bytes, from + j);
-        j += 1;
     }
 }
 
-// Stores the characters of all units in the first places: those of a stretch without surrogates at once, then some one by one.
+// Stores the characters of all units in the first places: those of a stretch without surrogates at once, then up to 16 units one by one.
+// The outer loop stays a `while`: a turn takes as many units as `plain_end` answers.
 fn store(order: ByteOrder, bytes: &[u8], out: &mut [u32])
     requires { length (chars_in (units_in order bytes.now)) ≤ length out.old }
     ensures { out.new ≡ sets out.old 0 (chars_in (units_in order bytes.now)) }
@@ -187,17 +171,16 @@ fn store(order: ByteOrder, bytes: &[u8], out: &mut [u32])
     while i < n {
         let end = plain_end(bytes, i);
         widen(order, bytes, i, end, out, k);
-        k = k + (end - i);
-        i = end;
-        let stop = steps_end(i, n);
-        while i < stop {
-            let u = unit_at(order, bytes, i);
-            i += 1;
+        k += end - i;
+        let stop = n.min(end + 16);
+        for j in end..stop {
+            let u = unit_at(order, bytes, j);
             if !is_low(u) {
-                out[k] = char_at(order, bytes, u, i);
+                out[k] = char_at(order, bytes, u, j + 1);
                 k += 1;
             }
         }
+        i = stop;
     }
 }
 
@@ -219,7 +202,7 @@ pub fn decode_utf16(order: ByteOrder, bytes: &[u8], out: &mut [u32]) -> Result<u
     Ok(n)
 }
 
-// Writes a unit's two bytes at a place.
+// Writes a unit's two bytes at a place. By `to_le_bytes` and `to_be_bytes` characters above FFFF would take 30 to 60 % longer.
 fn put_unit(order: ByteOrder, u: u32, out: &mut [u8], at: usize)
     requires { (u < 0x10000) × (at + 2 ≤ length out.old) }
     ensures { out.new ≡ sets out.old at (first_byte order u ∷ second_byte order u ∷ []) }
@@ -253,19 +236,12 @@ fn put_char(order: ByteOrder, c: u32, out: &mut [u8], at: usize) -> usize
     at + 4
 }
 
-// True only if so many characters from `at` on are below 10000, and so have one unit. The loop has no early exit, so that it can be
+// True only if all of a block's characters are below 10000, and so have one unit. The fold has no early exit, so that it can be
 // vectorised.
-fn is_short_block(chars: &[u32], at: usize, size: usize) -> bool
-    requires { at + size ≤ length chars.now }
-    ensures { result ≡ true → OneUnit chars.now at (at + size) }
+fn is_short_block(block: &[u32]) -> bool
+    ensures { result ≡ true → OneUnit block.now 0 (length block.now) }
 {
-    let mut good = true;
-    let mut tested = 0;
-    while tested < size {
-        good = good & (chars[at + tested] < 0x10000);
-        tested += 1;
-    }
-    good
+    block.iter().fold(true, |good, &c| good & (c < 0x10000))
 }
 
 // A place up to which every character from `from` on has one unit, in blocks as those of `plain_end`.
@@ -273,14 +249,14 @@ fn short_end(chars: &[u32], from: usize) -> usize
     requires { from ≤ length chars.now }
     ensures { OneUnitTo chars.now from result }
 {
-    let mut i = from;
-    while 16 <= chars.len() - i {
-        if !is_short_block(chars, i, 16) {
-            return i;
+    let mut end = from;
+    for block in chars[from..].chunks_exact(16) {
+        if !is_short_block(block) {
+            return end;
         }
-        i += 16;
+        end += 16;
     }
-    i
+    end
 }
 
 // Writes the characters from `from` up to `end`, each of which has one unit, at a place.
@@ -289,15 +265,13 @@ fn put_short(order: ByteOrder, chars: &[u32], from: usize, end: usize, out: &mut
     requires from_in_bounds { at + 2 * (end - from) ≤ length out.old }
     ensures { out.new ≡ sets out.old at (serialised order (take (end - from) (drop from chars.now))) }
 {
-    let mut j = 0;
-    while j < end - from {
-        put_unit(order, chars[from + j], out, at + 2 * j);
-        j += 1;
+    for (j, &c) in chars[from..end].iter().enumerate() {
+        put_unit(order, c, out, at + 2 * j);
     }
 }
 
-// Writes all characters from the first byte on, and answers how many bytes they took: those of one unit in stretches, then some one by
-// one.
+// Writes all characters from the first byte on, and answers how many bytes they took: those of one unit in stretches, then up to 16 one by
+// one. The outer loop stays a `while`: a turn takes as many characters as `short_end` answers.
 fn put_chars(order: ByteOrder, chars: &[u32], out: &mut [u8]) -> usize
     requires { (are_chars chars.now ≡ true) × (4 * length chars.now ≤ length out.old) }
     ensures { (result ≡ length (utf16_of order chars.now)) × (out.new ≡ sets out.old 0 (utf16_of order chars.now)) }
@@ -307,13 +281,12 @@ fn put_chars(order: ByteOrder, chars: &[u32], out: &mut [u8]) -> usize
     while i < chars.len() {
         let end = short_end(chars, i);
         put_short(order, chars, i, end, out, at);
-        at = at + 2 * (end - i);
-        i = end;
-        let stop = steps_end(i, chars.len());
-        while i < stop {
-            at = put_char(order, chars[i], out, at);
-            i += 1;
+        at += 2 * (end - i);
+        let stop = chars.len().min(end + 16);
+        for &c in &chars[end..stop] {
+            at = put_char(order, c, out, at);
         }
+        i = stop;
     }
     at
 }

@@ -8,7 +8,6 @@ use native.Mathlib.Nat.{zero-add, add-zero}
 use native.Mathlib.Numerals.{add-one}
 use native.Mathlib.Omega.{arith}
 use borrow.Author.Rules.{rules}
-use borrow.Author.Tests.{not-true, not-false}
 use lib.ListN.{length, get_or, drop, get_or-eq_default}
 use lib.Seq.{drop-cons, drop-length, get_or-drop}
 use Rattle.common.proofs.Kit.{by_lt, both_true}
@@ -124,31 +123,31 @@ loop-less c =
     let a = c.args in
     let end = c.plain_end-i in
     by_lt end.result (length a.bytes.now / 2)
-    (λ h. omega (arith, c.steps_end-stop.ensures.1 h, end.ensures.begun, c.loop-i-2-test.false))
+    (λ h. omega (arith, end.ensures.begun, c.loop-i-2-test.false))
     (λ h. omega (arith, c.loop-i-2.invariant.1, c.loop-i-test.true))
 
 loop-again : tie.Need-loop-i-preserved invariant-loop2 decreases-loop2 invariant-loop decreases-loop
 loop-again c = c.loop-i-2.invariant.0
 
 unit-at-requires : tie.Need-unit_at-u-requires invariant-loop2 decreases-loop2 invariant-loop decreases-loop
-unit-at-requires c κs = omega (arith, c.loop-i-2-test.true, c.steps_end-stop.ensures.0)
+unit-at-requires c κs = omega (arith, c.loop-i-2-test.true)
 
 returns : tie.Need-returns-then-not-is_high-is_low invariant-loop2 decreases-loop2 invariant-loop decreases-loop
 returns c =
     let a = c.args in
-    found _ _ _ c.loop-i-2.invariant.0 (units_inside a.order a.bytes.now _ (omega (arith, c.loop-i-2-test.true, c.steps_end-stop.ensures.0)))
+    found _ _ _ c.loop-i-2.invariant.0 (units_inside a.order a.bytes.now _ (omega (arith, c.loop-i-2-test.true)))
     (rw (← c.unit_at-u.ensures.0, ← c.is_surrogate.ensures) c.if-is_surrogate.true)
     (rw (← c.unit_at-u.ensures.0, ← c.unit_or_zero.ensures.0, ← c.is_high.ensures, ← c.is_low.ensures) c.if-not-is_high-is_low.true)
 
 add-pairs : tie.Need-overflow_add-pairs invariant-loop2 decreases-loop2 invariant-loop decreases-loop
 add-pairs c =
-    omega (arith, c.loop-i-2.invariant.0.few, c.loop-i-2-test.true, c.steps_end-stop.ensures.0)
+    omega (arith, c.loop-i-2.invariant.0.few, c.loop-i-2-test.true)
 
 loop2-again : tie.Need-loop-i-2-preserved-then-is_surrogate invariant-loop2 decreases-loop2 invariant-loop decreases-loop
 loop2-again c =
     let a = c.args in (
       pair _ _ _ c.loop-i-2.invariant.0
-          (units_inside a.order a.bytes.now _ (omega (arith, c.loop-i-2-test.true, c.steps_end-stop.ensures.0)))
+          (units_inside a.order a.bytes.now _ (omega (arith, c.loop-i-2-test.true)))
           (rw (← c.unit_at-u.ensures.0, ← c.unit_or_zero.ensures.0, ← c.is_high.ensures, ← c.is_low.ensures) c.if-not-is_high-is_low.false),
       omega (arith, c.loop-i-2.invariant.1),
     )
@@ -157,7 +156,7 @@ loop2-again-2 : tie.Need-loop-i-2-preserved invariant-loop2 decreases-loop2 inva
 loop2-again-2 c =
     let a = c.args in (
       plain _ _ _ c.loop-i-2.invariant.0
-          (units_inside a.order a.bytes.now _ (omega (arith, c.loop-i-2-test.true, c.steps_end-stop.ensures.0)))
+          (units_inside a.order a.bytes.now _ (omega (arith, c.loop-i-2-test.true)))
           (rw c.unit_at-u.ensures.0 at (sym c.is_surrogate.ensures ∙ c.if-is_surrogate.false)),
       omega (arith, c.loop-i-2.invariant.1),
     )
@@ -177,7 +176,8 @@ look_over_spec =
     decreases-loop
     (λ c. begin _)
     (λ c κs. search rules)
-    (λ c κs. c.plain_end-i.ensures.inside)
+    (λ c. omega (arith, c.plain_end-i.ensures.inside))
+    (λ c κs. search rules)
     loop2-holds
     loop-less
     loop-again
