@@ -12,13 +12,13 @@ use text_output::{Ground, Mode, State, TextOutput, Written, Wrote};
 use text_utils::is_basic_text_start;
 
 // Where a write begins: behind the kept characters.
+#[tactic(auto, unfolding(crate::specs::Inner::machine_at))]
 pub fn place_of(w: TextOutput) -> Place
     ensures escape_sequence_value { machine_at result w.escape_sequence ≡ machine_of w }
     ensures at_value { result.at ≡ w.kept }
 {
-    let state = w.state;
     Place {
-        state,
+        state: w.state,
         held: w.held,
         at: w.kept,
     }
@@ -28,10 +28,7 @@ pub fn place_of(w: TextOutput) -> Place
 pub fn first_of(out: &[u32]) -> u32
     ensures { result ≡ get_or out.now 0 0 }
 {
-    if out.len() == 0 {
-        return 0;
-    }
-    out[0]
+    out.first().copied().unwrap_or(0)
 }
 
 // Whether n characters to hand out, the first of them given, are none or begin with a start. Inner: asks for an accepted page.
@@ -39,10 +36,7 @@ fn start_or_none(page: &[u32], n: usize, first: u32) -> bool
     requires { accepted page.now ≡ true }
     ensures { result ≡ start_or_none page.now n first }
 {
-    if n == 0 {
-        return true;
-    }
-    is_basic_text_start(page, first)
+    n == 0 || is_basic_text_start(page, first)
 }
 
 // The characters up to the place are handed out, or refused by 5 and kept. Inner, as `start_or_none`.

@@ -68,28 +68,13 @@ pub fn taking(n: usize, written: Written) -> WrittenBytes
     ensures used_value { result.used ≡ cond (succeeds (wrote_numbers written.answer)) n 0 }
     ensures answer_value { (result.answer ≡ written.answer) × (result.next ≡ written.next) }
 {
-    let answer = written.answer;
-    let next = written.next;
-    match answer {
-        Wrote::HandedOut(_) => WrittenBytes {
-            used: n,
-            answer,
-            next,
-        },
-        Wrote::Refused(_) => WrittenBytes {
-            used: 0,
-            answer,
-            next,
-        },
-        Wrote::Abandon(_) => WrittenBytes {
-            used: 0,
-            answer,
-            next,
-        },
-        Wrote::Unwritable(_) => WrittenBytes {
-            used: 0,
-            answer,
-            next,
-        },
+    let used = match written.answer {
+        Wrote::HandedOut(_) => n,
+        _ => 0,
+    };
+    WrittenBytes {
+        used,
+        answer: written.answer,
+        next: written.next,
     }
 }

@@ -46,14 +46,7 @@ fn input_refusal(w: TextOutput, page: &[u32], values: u32) -> u32
 fn is_short(w: TextOutput, n: usize, room: usize) -> bool
     ensures { result ≡ ltb room (places_for_write w n) }
 {
-    if room < w.kept {
-        return true;
-    }
-    let behind = room - w.kept;
-    if behind < w.held {
-        return true;
-    }
-    (behind - w.held) / 3 < n
+    room < w.kept || room - w.kept < w.held || (room - w.kept - w.held) / 3 < n
 }
 
 // The number by which a write of n characters is refused, 0 where it is not. Total.

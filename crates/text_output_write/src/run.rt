@@ -28,13 +28,13 @@ struct Ahead {
 }
 
 // Inner: asks for an accepted page.
+#[tactic(auto, unfolding(isolate_unassigned::specs::Inner::isolate_step_of))]
 fn look_ahead(page: &[u32], isolator: IsolateUnassigned, c: u32) -> Ahead
     requires { accepted page.now ≡ true }
     ensures put_value { result.put ≡ puts page.now isolator c }
     ensures isolator_value { result.isolator ≡ after (isolate_step_of page.now isolator c) }
 {
-    let isolated = isolator.step(page, c);
-    match isolated {
+    match isolator.step(page, c) {
         Isolated::One(_, next) => Ahead {
             put: false,
             isolator: next,
@@ -246,20 +246,14 @@ pub fn run(
 {
     let mut w = start;
     let mut isolator = IsolateUnassigned::new();
-    let mut i = 0;
-    while i < chars.len() {
-        let turned = turn(page, mode, w, isolator, chars[i], escape, out);
-        let pushed = turned.pushed;
-        let after = turned.isolator;
-        i += 1;
-        match pushed {
+    for &c in chars {
+        let turned = turn(page, mode, w, isolator, c, escape, out);
+        match turned.pushed {
             Pushed::On(next) => {
                 w = next;
-                isolator = after;
+                isolator = turned.isolator;
             }
-            Pushed::Stopped(_, _) => {
-                return pushed;
-            }
+            Pushed::Stopped(_, _) => return turned.pushed,
         }
     }
     finish(mode, w, isolator, escape, out)
@@ -283,22 +277,15 @@ pub fn run_bytes(
     let mut w = start;
     let mut isolator = IsolateUnassigned::new();
     let mut place = 0;
-    loop {
-        let Utf8Step::Char(c, next_place) = utf8_step(bytes, place) else {
-            break;
-        };
+    while let Utf8Step::Char(c, next_place) = utf8_step(bytes, place) {
         place = next_place;
         let turned = turn(page, mode, w, isolator, c, escape, out);
-        let pushed = turned.pushed;
-        let after = turned.isolator;
-        match pushed {
+        match turned.pushed {
             Pushed::On(next) => {
                 w = next;
-                isolator = after;
+                isolator = turned.isolator;
             }
-            Pushed::Stopped(_, _) => {
-                return pushed;
-            }
+            Pushed::Stopped(_, _) => return turned.pushed,
         }
     }
     finish(mode, w, isolator, escape, out)

@@ -1,0 +1,12 @@
+-- The loop goes the way of proofs/Runs.antt, over what is left of the bytes. The measure is how many these are.
+use Rattle.std.proofs.Common.{length, ◌-◌}
+use Rattle.scalars.specs.Utf8.{chars_of}
+use Rattle.text_output_write.proofs.Runs.{Going, Bytes}
+use Rattle.text_output_write.proofs.run.run_bytes.Given as goal
+
+abbrev pub invariant-loop-c : goal.invariant-loop-c
+invariant-loop-c l =
+    Going (Bytes l.bytes) l.page l.mode l.fn.start l.fn.escape l.fn.out (chars_of l.bytes) l.w l.isolator l.place l.escape l.out
+
+abbrev pub decreases-loop-c : goal.decreases-loop-c
+decreases-loop-c l = length l.bytes - l.place
