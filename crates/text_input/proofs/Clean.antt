@@ -5,7 +5,7 @@
 --     run_clean, scan_clean, finish_clean    `clean` (check_char/specs/Check.antt) holds of all that is appended: accepted by the
 --                                            check or one of those that it lists though nothing replaces them, and no ESC
 --     run_chars, scan_chars_lem, finish_chars_lem    all that is appended are characters
-use Prim.Native.Nat.{ℕ, zero, suc, ◌+◌}
+use Prim.Native.Nat.{ℕ, zero, suc}
 use mathlib.Core.Path.{◌≡◌, refl}
 use mathlib.Core.Bool.{Bool, true, false, not, ◌&&◌}
 use mathlib.Core.List.{List, [], ◌∷◌, ◌++◌}

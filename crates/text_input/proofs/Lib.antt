@@ -14,7 +14,6 @@ pub mod Room
 pub mod Clean
 pub mod Refusals
 pub mod Examples
-pub mod Kit
 pub mod Stretch
 pub mod Loop
 pub mod Calls

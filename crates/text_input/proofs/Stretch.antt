@@ -7,7 +7,7 @@
 --     turn_room, turn_moves      and over one character
 --     ran_is                     an answer by its parts
 use Prim.Native.Nat.{ℕ, suc, ◌+◌, ◌-◌, ◌≤◌, ◌<◌}
-use mathlib.Core.Bool.{Bool, true, false, true≢false}
+use mathlib.Core.Bool.{Bool, true, false, true≢false, ◌&&◌}
 use mathlib.Core.List.{List, [], ◌∷◌, append-nil}
 use mathlib.Core.Path.{◌≡◌, refl, sym, ap, ◌∙◌}
 use native.Mathlib.Omega.{arith}
@@ -19,6 +19,7 @@ use Rattle.replace.specs.declared.Replaced.TheVariants.{One}
 use Rattle.replace.specs.Table.{in_spans}
 use Rattle.common.proofs.Kit.{both_true, by_lt}
 use Rattle.ranges.specs.declared.Range.{Range}
+use Rattle.stretch.specs.declared.Sought.{Sought}
 use Rattle.stretch.specs.Stretch.{in_sought, Stretch, part}
 use Rattle.stretch.specs.Plain.{special, Gap, ascii_or}
 use Rattle.stretch.proofs.Clear.{Kept, sought_kept}
@@ -118,14 +119,16 @@ pub record Keeps (r : TextInput) (chunk : List ℕ) (i j : ℕ) : Type 0 where
   pub ready : steady r ≡ true
   pub kept : (x : ℕ) → i ≤ x → x < j → Kept (get_or chunk x 0)
 
--- the character at i is sought, and so are those of a stretch behind it
-pub keeps : (r : TextInput) (chunk : List ℕ) (i j : ℕ) (gap : Range) → steady r ≡ true → Gap gap → in_sought (ascii_or gap) (get_or chunk i 0) ≡ true →
-    Stretch (ascii_or gap) chunk (i + 1) j → Keeps r chunk i j
-keeps r chunk i j gap t g h v =
+-- the character at i is sought, and so are those of a stretch behind it, as the calls of `advance` find
+pub keeps : (r : TextInput) (chunk : List ℕ) (i j : ℕ) (gap : Range) (q : Sought) (ready sought : Bool) → ready && sought ≡ true → ready ≡ steady r
+    → q ≡ ascii_or gap → sought ≡ in_sought q (get_or chunk i 0) → Gap gap → Stretch (ascii_or gap) chunk (i + 1) j → Keeps r chunk i j
+keeps r chunk i j gap q ready sought t e f n g v =
+    let b = both_true ready sought t in
+    let h : in_sought (ascii_or gap) (get_or chunk i 0) ≡ true = rw f at (sym n ∙ b.1) in
     record {
       more = omega (arith, v.on);
       low = v.low;
-      ready = t;
+      ready = sym e ∙ b.0;
       kept = λ x l m.
           sought_kept gap g (get_or chunk x 0)
           (by_lt x (i + 1) (λ e. let q : x ≡ i = omega arith in rw q h) (λ e. v.each x e m));

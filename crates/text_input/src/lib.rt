@@ -50,24 +50,11 @@ pub enum State {
 
 // Which characters end a line beside 0A and 0D: 85; 2028 and 2029. And "a scanner option under which replacement turns U+2126 into
 // U+03A9, U+212A into U+004B and U+212B into U+00C5".
-#[derive(Clone, Copy, Debug, PartialEq, Eq)]
+#[derive(Clone, Copy, Debug, PartialEq, Eq, Default)]
 pub struct Options {
     pub nel_compatibility: bool,
     pub lsps_compatibility: bool,
     pub units_compatibility: bool,
-}
-
-impl Options {
-    // Each of them off.
-    pub fn default() -> Self
-        ensures { result ≡ all_off }
-    {
-        Self {
-            nel_compatibility: false,
-            lsps_compatibility: false,
-            units_compatibility: false,
-        }
-    }
 }
 
 // The scanner's record. The options, which the Rust keeps here, come with each call.
@@ -152,19 +139,17 @@ impl TextInput {
         ensures places { queue.new ≡ stored_if stores queue.old at (out_chars (scan_step_of page.now options self c)) }
     {
         let step = self.step(page, options, c);
-        let lead = step.lead;
-        let image = step.image;
-        let written = put_if(stores, queue, at, lead, image);
-        let next = step.next;
-        Ran { written, next }
+        Ran {
+            written: put_if(stores, queue, at, step.lead, step.image),
+            next: step.next,
+        }
     }
 
     // Whether plain characters are appended as they come: nothing is pending, and no start is expected.
     fn is_steady(self) -> bool
         ensures { result ≡ steady self }
     {
-        let state = self.state;
-        is_ground(state) & !self.expect_starter
+        is_ground(self.state) & !self.expect_starter
     }
 
     // The record after characters that were appended as they came, by the last of them.
@@ -174,9 +159,8 @@ impl TextInput {
         Self {
             state: State::Ground(c == 0xa),
             expect_starter: false,
-            at_start: self.at_start,
             last: c,
-            count: self.count,
+            ..self
         }
     }
 
@@ -203,22 +187,19 @@ impl TextInput {
         if self.is_steady() & is_sought(ascii_or(gap), c) {
             let end = plain_end(chunk, i + 1, gap);
             put_run_if(stores, &chunk[i..end], queue, k);
-            let next = self.passed(chunk[end - 1]);
             Moved {
                 at: end,
                 written: k + (end - i),
-                next,
+                next: self.passed(chunk[end - 1]),
                 gap,
             }
         } else {
             let turned = self.turn(page, options, c, stores, queue, k);
-            let next = turned.next;
-            let near = gap_after(gap, c);
             Moved {
                 at: i + 1,
                 written: turned.written,
-                next,
-                gap: near,
+                next: turned.next,
+                gap: gap_after(gap, c),
             }
         }
     }
@@ -239,20 +220,28 @@ impl TextInput {
         ensures ran { result ≡ ran_by 0 (run_of page.now options self chunk.now) }
         ensures places { queue.new ≡ stored_if stores queue.old 0 (outs page.now options self chunk.now) }
     {
-        let mut r = self;
-        let mut gap = first_gap();
-        let mut k = 0;
-        let mut i = 0;
-        while i < chunk.len() {
-            let moved = r.advance(page, options, chunk, i, gap, stores, queue, k);
-            i = moved.at;
-            k = moved.written;
-            r = moved.next;
-            gap = moved.gap;
+        let mut moved = Moved {
+            at: 0,
+            written: 0,
+            next: self,
+            gap: first_gap(),
+        };
+        // No `for`: each turn takes as many characters as it answers.
+        while moved.at < chunk.len() {
+            moved = moved.next.advance(
+                page,
+                options,
+                chunk,
+                moved.at,
+                moved.gap,
+                stores,
+                queue,
+                moved.written,
+            );
         }
         Ran {
-            written: k,
-            next: r,
+            written: moved.written,
+            next: moved.next,
         }
     }
 
@@ -273,24 +262,18 @@ impl TextInput {
         requires chunk_len_bound { length chunk.now ≤ max_count }
         ensures { result ≡ length (outs page.now options self chunk.now) }
     {
-        let mut none = [0u32; 1];
-        let ran = self.go(page, options, chunk, false, &mut none[0..0]);
-        ran.written
+        self.go(page, options, chunk, false, &mut []).written
     }
 
     // How many characters of the chunk are dropped: a leading FEFF, where no chunk was accepted before. Inner; total.
     pub fn skips(self, chunk: &[u32]) -> usize
         ensures { result ≡ skipped self chunk.now }
     {
-        if !self.at_start {
-            return 0;
+        if self.at_start && matches!(chunk, [BOM, ..]) {
+            1
+        } else {
+            0
         }
-        if 0 < chunk.len() {
-            if chunk[0] == BOM {
-                return 1;
-            }
-        }
-        0
     }
 
     // The record of an accepted scan of n characters, before the first of them. Inner: asks that the count stays within its limit.
@@ -298,13 +281,10 @@ impl TextInput {
         requires { self.count + n ≤ max_count }
         ensures { result ≡ opened self n }
     {
-        let state = self.state;
         Self {
-            state,
-            expect_starter: self.expect_starter,
             at_start: false,
-            last: self.last,
             count: self.count + n,
+            ..self
         }
     }
 
@@ -340,9 +320,8 @@ impl TextInput {
         ensures chars { ending_chars result ≡ finish_chars self eof }
         ensures next { result.next ≡ finish_next self eof }
     {
-        let state = self.state;
-        let line = after_line(state);
-        let lead = pending(state);
+        let line = after_line(self.state);
+        let lead = pending(self.state);
         let last = last_lead(self.last, lead);
         let mark = end_mark(last);
         let newline = owed_newline(eof & !line);
@@ -353,9 +332,8 @@ impl TextInput {
             next: Self {
                 state: State::Ground(eof | line),
                 expect_starter: true,
-                at_start: self.at_start,
                 last: last_lead(last_lead(last, mark), newline),
-                count: self.count,
+                ..self
             },
         }
     }
@@ -410,16 +388,7 @@ fn put_run_if(stores: bool, run: &[u32], queue: &mut [u32], at: usize)
 pub fn is_ground(state: State) -> bool
     ensures { result ≡ grounded state }
 {
-    match state {
-        State::Ground(_) => true,
-        State::Cr => false,
-        State::Ff => false,
-        State::Esc => false,
-        State::CsiStart => false,
-        State::Csi => false,
-        State::Osc => false,
-        State::Linux => false,
-    }
+    matches!(state, State::Ground(_))
 }
 
 // What is pending gives this at a finish.
@@ -427,14 +396,9 @@ fn pending(state: State) -> Option<u32>
     ensures { result ≡ pending_of state }
 {
     match state {
-        State::Ground(_) => None,
         State::Cr => Some(0xa),
         State::Ff => Some(0x20),
-        State::Esc => None,
-        State::CsiStart => None,
-        State::Csi => None,
-        State::Osc => None,
-        State::Linux => None,
+        _ => None,
     }
 }
 
@@ -445,11 +409,6 @@ fn after_line(state: State) -> bool
     match state {
         State::Ground(line) => line,
         State::Cr => true,
-        State::Ff => false,
-        State::Esc => false,
-        State::CsiStart => false,
-        State::Csi => false,
-        State::Osc => false,
-        State::Linux => false,
+        _ => false,
     }
 }

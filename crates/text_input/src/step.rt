@@ -50,6 +50,7 @@ pub struct Step {
 }
 
 // 85, 2028 or 2029, where its option is on. Inner; total.
+#[tactic(auto, unfolding(crate::specs::Sets::optional_line))]
 pub fn is_optional_line(options: Options, c: u32) -> bool
     ensures { result ≡ optional_line options c }
 {
@@ -60,14 +61,16 @@ pub fn is_optional_line(options: Options, c: u32) -> bool
 fn leave_esc(c: u32) -> Left
     ensures { result ≡ esc_leave c }
 {
-    if c == 0x5b {
-        Left::Part(State::CsiStart)
-    } else if c == 0x5d {
-        Left::Part(State::Osc)
-    } else if is_final(c) {
-        Left::Part(State::Ground(false))
-    } else {
-        Left::Ends
+    match c {
+        0x5b => Left::Part(State::CsiStart),
+        0x5d => Left::Part(State::Osc),
+        _ => {
+            if is_final(c) {
+                Left::Part(State::Ground(false))
+            } else {
+                Left::Ends
+            }
+        }
     }
 }
 
@@ -86,6 +89,7 @@ fn leave_csi(c: u32) -> Left
 
 // In each state. Inner; total.
 // "Guarded matches: matches on a local, then ifs."
+#[tactic(auto, unfolding(crate::specs::Step::leave_of))]
 pub fn leave(state: State, c: u32) -> Left
     ensures { result ≡ leave_of state c }
 {
@@ -135,21 +139,22 @@ pub fn leave(state: State, c: u32) -> Left
     }
 }
 
+#[tactic(auto, unfolding(crate::specs::Step::meet_of))]
 fn meet(options: Options, c: u32) -> Met
     ensures { result ≡ meet_of options c }
 {
-    if c == 0xa {
-        Met::Line
-    } else if c == 0xd {
-        Met::Opens(State::Cr)
-    } else if c == FF {
-        Met::Opens(State::Ff)
-    } else if c == ESC {
-        Met::Opens(State::Esc)
-    } else if is_optional_line(options, c) {
-        Met::Line
-    } else {
-        Met::Other
+    match c {
+        0xa => Met::Line,
+        0xd => Met::Opens(State::Cr),
+        FF => Met::Opens(State::Ff),
+        ESC => Met::Opens(State::Esc),
+        _ => {
+            if is_optional_line(options, c) {
+                Met::Line
+            } else {
+                Met::Other
+            }
+        }
     }
 }
 
@@ -164,9 +169,8 @@ impl TextInput {
             next: TextInput {
                 state,
                 expect_starter: expect,
-                at_start: self.at_start,
                 last: last_image(last_lead(self.last, lead), image),
-                count: self.count,
+                ..self
             },
         }
     }
@@ -176,8 +180,7 @@ impl TextInput {
         requires { accepted page.now ≡ true }
         ensures { result ≡ ground_of page.now options self c lead expect }
     {
-        let met = meet(options, c);
-        match met {
+        match meet(options, c) {
             Met::Line => self.made(lead, Some(Replaced::One(0xa)), State::Ground(true), false),
             Met::Opens(state) => self.made(lead, None, state, expect),
             Met::Other => {
@@ -189,31 +192,22 @@ impl TextInput {
     }
 
     // One character. Inner: asks for an accepted page.
+    #[tactic(auto, unfolding(crate::specs::Step::scan_step_of))]
     pub fn step(self, page: &[u32], options: Options, c: u32) -> Step
         requires { accepted page.now ≡ true }
         ensures { result ≡ scan_step_of page.now options self c }
     {
-        let state = self.state;
-        let mut lead = None;
-        let mut expect = self.expect_starter;
-        let left = leave(state, c);
-        match left {
+        let (lead, expect) = match leave(self.state, c) {
             Left::Part(part) => {
                 return self.made(None, None, part, self.expect_starter);
             }
             Left::Newline => {
                 return self.made(None, Some(Replaced::One(0xa)), State::Ground(true), false);
             }
-            Left::Goes => {}
-            Left::Ends => {}
-            Left::After(a) => {
-                lead = Some(a);
-                expect = false;
-            }
-            Left::Dropped => {
-                expect = false;
-            }
-        }
+            Left::Goes | Left::Ends => (None, self.expect_starter),
+            Left::After(a) => (Some(a), false),
+            Left::Dropped => (None, false),
+        };
         self.ground(page, options, c, lead, expect)
     }
 }
