@@ -202,6 +202,7 @@ fn check_by(units: bool, c: u32) -> Result<(), BasicTextError>
 }
 
 // The same with the option off, for a write and the check of a run. Inner, as `check_by`.
+#[tactic(auto, unfolding(crate::specs::Check::check_numbers))]
 pub fn check_basic_text_char(c: u32) -> Result<(), BasicTextError>
     ensures { reason_numbers result ≡ check_numbers c }
 {

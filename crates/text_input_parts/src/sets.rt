@@ -5,6 +5,7 @@ ghost use Rattle.text_input_parts.specs.Sets.{parameter, final, string_end, up_t
 use scalars::{BEL, CAN, DEL};
 
 // 20..3F.
+#[tactic(auto, unfolding(crate::specs::Sets::parameter))]
 pub fn is_parameter(c: u32) -> bool
     ensures { result ≡ parameter c }
 {
@@ -19,6 +20,7 @@ pub fn is_final(c: u32) -> bool
 }
 
 // BEL or CAN.
+#[tactic(auto, unfolding(crate::specs::Sets::string_end))]
 pub fn is_string_end(c: u32) -> bool
     ensures { result ≡ string_end c }
 {
@@ -26,6 +28,7 @@ pub fn is_string_end(c: u32) -> bool
 }
 
 // Up to 7F.
+#[tactic(auto, unfolding(crate::specs::Sets::up_to7_f))]
 pub fn up_to_del(c: u32) -> bool
     ensures { result ≡ up_to7_f c }
 {
@@ -33,6 +36,7 @@ pub fn up_to_del(c: u32) -> bool
 }
 
 // 0A or 0D.
+#[tactic(auto, unfolding(crate::specs::Sets::newline_char))]
 pub fn is_newline_char(c: u32) -> bool
     ensures { result ≡ newline_char c }
 {

@@ -4,26 +4,12 @@ use mathlib.Core.Path.{◌≡◌, ◌∙◌}
 use mathlib.Core.Bool.{Bool, true, false}
 use mathlib.Core.Logic.{⊎_elim}
 use native.Mathlib.Omega.{arith}
-use borrow.Author.Rules.{rules}
 use borrow.Author.Tests.{leb-true}
 use lib.Dec.{leb}
 use Rattle.common.proofs.Kit.{by, both_true}
 use Rattle.replace.specs.Table.{one, has}
 use Rattle.replace.specs.Replace.{replace_of}
-use Rattle.replace.proofs.replace_by.Statement.{statement}
-use Rattle.replace.proofs.replace_by.Tie as tie
-
-returns : tie.Need-returns-in-8486
-unfolding replace_of
-returns c = simp (c.in-8486.is, c.if-units.true)
-
-returns-2 : tie.Need-returns-in-8490
-unfolding replace_of
-returns-2 c = simp (c.in-8490.is, c.if-units.true)
-
-returns-3 : tie.Need-returns-in-8491
-unfolding replace_of
-returns-3 c = simp (c.in-8491.is, c.if-units.true)
+use Rattle.replace.proofs.replace_by.Goals as goal
 
 no_row : (k c : ℕ) → (c ≡ k → ⊥) → has (one k) c ≡ false
 no_row k c n =
@@ -38,10 +24,19 @@ others units c e a b d = rw (e, no_row 0x2126 c a, no_row 0x212a c b, no_row 0x2
 off : (units : Bool) (c : ℕ) → units ≡ false → replace_of false c ≡ replace_of units c
 off units c e = rw e
 
-returns-4 : tie.Need-returns
-returns-4 c =
+pub returns-in-8486 : goal.returns-in-8486
+unfolding replace_of
+returns-in-8486 c = simp (c.in-8486.is, c.if-units.true)
+
+pub returns-in-8490 : goal.returns-in-8490
+unfolding replace_of
+returns-in-8490 c = simp (c.in-8490.is, c.if-units.true)
+
+pub returns-in-8491 : goal.returns-in-8491
+unfolding replace_of
+returns-in-8491 c = simp (c.in-8491.is, c.if-units.true)
+
+pub returns : goal.returns
+returns c =
     c.replace.ensures ∙
     ⊎_elim (λ w. others _ _ w.if-units.true w.in_default.in_default-own.rest.0.0.1 w.in_default.in_default-own.rest.0.1 w.in_default.in_default-own.rest.1) (λ w. off _ _ w.if-units.false) c.if-units.branch-raw
-
-pub replace_by_spec : {M : Type 1} → statement M
-replace_by_spec = tie.close (tie.spec returns returns-2 returns-3 (λ c κs. search rules) returns-4)

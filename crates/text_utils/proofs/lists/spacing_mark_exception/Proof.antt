@@ -1,7 +1,0 @@
--- `text_utils::lists::spacing_mark_exception` meets its contract: the array has, number by number, the ranges of Unicode packed.
-use mathlib.Core.Path.{refl}
-use Rattle.text_utils.proofs.lists.spacing_mark_exception.Statement.{statement}
-use Rattle.text_utils.proofs.lists.spacing_mark_exception.Tie as tie
-
-pub spacing_mark_exception_spec : {M : Type 1} → statement M
-spacing_mark_exception_spec = tie.close (tie.spec (λ c. refl))
