@@ -8,8 +8,8 @@ use Rattle.page.proofs.is_sized.Goals as goal
 
 pub returns-then-page-lt2 : goal.returns-then-page-lt2
 unfolding sized
-returns-then-page-lt2 c = simp (lt-leb 2 (length c.before.args.page.now) (omega arith))
+returns-then-page-lt2 c = simp (lt-leb 2 (length c.args.page.now) (omega arith))
 
 pub returns : goal.returns
 unfolding sized
-returns c = simp (le-leb 2 (length c.before.before.before.args.page.now) (omega arith))
+returns c = simp (le-leb 2 (length c.args.page.now) (omega arith))

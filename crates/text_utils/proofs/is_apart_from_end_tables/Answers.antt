@@ -1,16 +1,15 @@
 -- `text_utils::is_apart_from_end_tables` meets its contract: each of the three spans passes the test.
 use Prim.Native.Nat.{ℕ, ◌≤◌}
 use mathlib.Core.Path.{◌≡◌, refl}
+use borrow.Author.Rules.{rules}
 use mathlib.Core.Bool.{true, not, ◌&&◌, ◌||◌}
 use mathlib.Core.Logic.{⊎_elim}
 use lib.Dec.{leb, eqb}
 use borrow.Author.Tests.{leb-true}
-use borrow.Author.Rules.{rules}
 use Rattle.common.proofs.Kit.{both_true, or_cases}
 use Rattle.text_utils.specs.Classes.{basic_text_end}
 use Rattle.text_utils.proofs.Classes.{ends_clear, end_clear}
-use Rattle.text_utils.proofs.is_apart_from_end_tables.Statement.{statement}
-use Rattle.text_utils.proofs.is_apart_from_end_tables.Tie as tie
+use Rattle.text_utils.proofs.is_apart_from_end_tables.Goals as goal
 
 module _ (c : ℕ) where
   abbrev Only : Type 0
@@ -24,5 +23,5 @@ module _ (c : ℕ) where
   in-spans a b d e g h x y z top =
       ⊎_elim (λ t. ⊎_elim (λ u. between a b x u) (λ u. between d e y u) (or_cases _ _ t)) (λ t. end_clear g 0xffffffff z c (leb-true _ _ t) top) (or_cases _ _ h)
 
-pub is_apart_from_end_tables_spec : {M : Type 1} → statement M
-is_apart_from_end_tables_spec = tie.close (tie.spec (λ c h. in-spans _ _ _ _ _ _ h refl refl refl (search rules)))
+pub returns : goal.returns
+returns c = λ h. in-spans _ _ _ _ _ _ h refl refl refl (search rules)

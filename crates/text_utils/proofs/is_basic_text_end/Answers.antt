@@ -5,27 +5,16 @@ use mathlib.Core.Path.{◌≡◌, refl, sym, ◌∙◌}
 use mathlib.Core.Bool.{true, false}
 use native.Mathlib.Omega.{arith}
 use lib.Dec.{eqb}
-use borrow.Author.Rules.{rules}
 use borrow.Author.Tests.{ne_eqb}
 use Rattle.text_utils.specs.Classes.{basic_text_end}
 use Rattle.text_utils.proofs.Classes.{end_clear}
-use Rattle.text_utils.proofs.is_basic_text_end.Statement.{statement}
-use Rattle.text_utils.proofs.is_basic_text_end.Tie as tie
+use Rattle.text_utils.proofs.is_basic_text_end.Goals as goal
 
 low : (c : ℕ) → c < 0x600 → true ≡ basic_text_end c
 low c h = let e : eqb c 0x200d ≡ false = ne_eqb c 0x200d (λ q. omega arith) in sym (end_clear 0 0x5ff refl c (omega arith) (omega arith) ∙ rw e)
 
-returns-3 : tie.Need-returns-then-is_apart_from_end_tables
-returns-3 c = sym (c.is_apart_from_end_tables.ensures c.if-is_apart_from_end_tables.true)
+pub returns-then-is_apart_from_end_tables : goal.returns-then-is_apart_from_end_tables
+returns-then-is_apart_from_end_tables c = sym (c.is_apart_from_end_tables.ensures c.if-is_apart_from_end_tables.true)
 
-pub is_basic_text_end_spec : {M : Type 1} → statement M
-is_basic_text_end_spec =
-    tie.close
-    (tie.spec
-    (λ c. low _ c.if-c-lt1536.true)
-    (λ c κs. search rules)
-    (λ c. search rules)
-    (λ c κs. search rules)
-    returns-3
-    (λ c κs. search rules)
-    (λ c. search rules))
+pub returns-then-c-lt1536 : goal.returns-then-c-lt1536
+returns-then-c-lt1536 c = low _ c.if-c-lt1536.true
