@@ -5,7 +5,7 @@ use mathlib.Core.Bool.{true}
 use native.Mathlib.Omega.{arith}
 use lib.ListN.{length, get_or}
 use borrow.Author.Rules.{rules}
-use borrow.Author.Tests.{not-true, not-false, eq-eqb, ne_eqb}
+use borrow.Author.Tests.{eq-eqb, ne_eqb}
 use Rattle.text_utils.specs.Classes.{basic_text_start}
 use Rattle.check_run.specs.Check.{faults, first_numbers}
 use Rattle.check_run.proofs.Faults.{last_faults, no_char, first_char, first_start, later_char, last_char}
