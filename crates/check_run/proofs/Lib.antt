@@ -4,3 +4,4 @@ pub mod Examples
 pub mod Laws
 pub mod Answers
 pub mod Faults
+pub mod Allowed

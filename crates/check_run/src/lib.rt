@@ -55,7 +55,8 @@ fn is_allowed(c: u32) -> bool
     }
 }
 
-// The place of the first character that is not allowed, and the length of the run where all are. Total.
+// The place of the first character that is not allowed, and the length of the run where all are. Total. The loop stays a `while`: a turn
+// takes as many characters as `plain_end` answers, or one.
 fn allowed_end(run: &[u32]) -> usize
     ensures { AllowedUpTo run.now result }
 {

@@ -38,6 +38,7 @@ pub enum Isolated {
 }
 
 // Whether c is unassigned and outside private use, by whether it was found assigned. Total.
+#[tactic(auto, unfolding(crate::specs::Meaning::to_isolate))]
 fn is_isolated(found: bool, c: u32) -> bool
     ensures { (p : List ℕ) → found ≡ assigned p c → result ≡ to_isolate p c }
 {
@@ -56,6 +57,7 @@ impl IsolateUnassigned {
     }
 
     // One character, `next` of the Rust with a character, where it is known whether it is to be isolated. Total.
+    #[tactic(auto, unfolding(crate::specs::Inner::isolate_step_of))]
     fn step_by(self, unassigned: bool, c: u32) -> Isolated
         ensures { (p : List ℕ) → unassigned ≡ to_isolate p c → result ≡ isolate_step_of p self c }
     {
@@ -100,7 +102,7 @@ impl IsolateUnassigned {
 fn places_for(chars: &[u32]) -> usize
     ensures { result ≡ places_for_run (length chars.now) }
 {
-    if chars.len() == 0 {
+    if chars.is_empty() {
         return 0;
     }
     2 * chars.len() + 1
@@ -230,7 +232,8 @@ impl IsolateUnassigned {
 }
 
 // Isolates a run into the first places of out, and answers how many. Inner: asks for an accepted page and for room.
-// What is left of the run, from the record r on, goes to the places from k on.
+// What is left of the run, from the record r on, goes to the places from k on. The loop stays a `while`: a turn takes as many characters
+// as `advance` answers.
 pub fn isolate_run(page: &[u32], chars: &[u32], out: &mut [u32]) -> usize
     requires page_value { accepted page.now ≡ true }
     requires chars_in_bounds { length (isolated page.now chars.now) ≤ length out.old }

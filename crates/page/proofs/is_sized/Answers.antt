@@ -1,7 +1,5 @@
--- `page::is_sized` meets its contract: the tests are those of `sized`, in its order, and twice the sum of two 32-bit numbers fits 64
--- bits.
-use native.Mathlib.Omega.{arith}
-use lib.ListN.{length}
+-- `page::is_sized` meets its contract: the tests are those of `sized`, in its order.
+use Rattle.std.proofs.Common.{length, arith}
 use borrow.Author.Tests.{le-leb, lt-leb}
 use Rattle.page.specs.Page.{sized}
 use Rattle.page.proofs.is_sized.Goals as goal
