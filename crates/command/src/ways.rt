@@ -52,14 +52,19 @@ impl Write for Output {
     }
 }
 
-// Where in an open file the next read begins, and where it ends; none for one without places. It is set back to where it stood.
-fn places_of(file: &mut File) -> io::Result<Option<(u64, u64)>> {
+// How many bytes stand from one place of a file to another, where there are any.
+fn between(here: u64, end: u64) -> Option<u64> {
+    end.checked_sub(here).filter(|&n| 0 < n)
+}
+
+// How many bytes follow in an open file, which is set back to where it stood; none for one without places.
+fn size_of(file: &mut File) -> io::Result<Option<u64>> {
     let Ok(here) = file.stream_position() else {
         return Ok(None);
     };
     let end = file.seek(SeekFrom::End(0)).unwrap_or(0);
     file.seek(SeekFrom::Start(here))?;
-    Ok(Some((here, end)))
+    Ok(between(here, end))
 }
 
 // The number behind `pos:`, with which the system's words on an open file begin.
@@ -89,19 +94,17 @@ fn end_of_standard(rt: &HostRuntime) -> Option<u64> {
     disk.seek(SeekFrom::End(0)).ok()
 }
 
-fn places_of_standard(rt: &HostRuntime) -> Option<(u64, u64)> {
-    Some((place_of_standard(rt)?, end_of_standard(rt)?))
+fn size_of_standard(rt: &HostRuntime) -> Option<u64> {
+    between(place_of_standard(rt)?, end_of_standard(rt)?)
 }
 
 impl Input {
-    // The same for the input. That of a standard input is known only where there is a system to ask.
-    pub fn places(&mut self, system: Option<HostRuntime>) -> io::Result<Option<(u64, u64)>> {
+    // How many bytes follow, where that is known and there are any. That of a standard input is known only where there is a system to
+    // ask.
+    pub fn size(&mut self, system: Option<HostRuntime>) -> io::Result<Option<u64>> {
         match self {
-            Input::Named(file) => places_of(file),
-            Input::Standard(_) => match system {
-                Some(rt) => Ok(places_of_standard(&rt)),
-                None => Ok(None),
-            },
+            Input::Named(file) => size_of(file),
+            Input::Standard(_) => Ok(system.and_then(|rt| size_of_standard(&rt))),
         }
     }
 }

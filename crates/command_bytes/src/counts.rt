@@ -6,46 +6,19 @@ ghost use Rattle.command_bytes.specs.Counts.{newlines as newlinesOf, starts as s
 pub fn newlines(bytes: &[u8]) -> usize
     ensures { result ≡ newlinesOf bytes.now }
 {
-    let mut n = 0;
-    let mut i = 0;
-    while i < bytes.len() {
-        if bytes[i] == b'\n' {
-            n += 1;
-        }
-        i += 1;
-    }
-    n
+    bytes.iter().filter(|&&b| b == b'\n').count()
 }
 
 // How many bytes are no continuation bytes: the characters of valid UTF-8.
 pub fn starts(bytes: &[u8]) -> usize
     ensures { result ≡ startsOf bytes.now }
 {
-    let mut n = 0;
-    let mut i = 0;
-    while i < bytes.len() {
-        let b = bytes[i];
-        if (b < 0x80) | (0xbf < b) {
-            n += 1;
-        }
-        i += 1;
-    }
-    n
+    bytes.iter().filter(|&&b| (b < 0x80) | (0xbf < b)).count()
 }
 
 // How many bytes stand behind the last 0A; all, where there is none.
 pub fn since_newline(bytes: &[u8]) -> usize
     ensures { result ≡ since_newline 0 bytes.now }
 {
-    let mut n = 0;
-    let mut i = 0;
-    while i < bytes.len() {
-        if bytes[i] == b'\n' {
-            n = 0;
-        } else {
-            n += 1;
-        }
-        i += 1;
-    }
-    n
+    bytes.iter().rev().take_while(|&&b| b != b'\n').count()
 }

@@ -1,0 +1,10 @@
+use Rattle.std.proofs.Common.{rules, ◌≡◌, ◌∙◌}
+use Rattle.std.specs.List.{count_by}
+use Rattle.command_bytes.specs.Counts.{is_start}
+use Rattle.command_bytes.proofs.Tallies.{tally_is}
+use Rattle.command_bytes.proofs.counts.starts.Goals as goal
+
+pub returns : goal.returns
+returns c =
+    let e : c.count.result ≡ count_by is_start c.args.bytes.now = search rules in
+    e ∙ tally_is is_start c.args.bytes.now
