@@ -2,12 +2,11 @@
 use crate::arguments::Wish;
 use crate::failure::Failure;
 use crate::messages;
-use crate::messages::failed;
 use crate::place::{Begun, Fault, Spot, counted, has_fault, plus};
 use crate::progress::Progress;
 use crate::ways::Ways;
 use command_bytes::counts::starts;
-use command_bytes::front::first;
+use command_bytes::front::up_to;
 use std::io::{Read, Write};
 use text_clean::{Cleaner, Counts};
 
@@ -70,7 +69,7 @@ impl<'a> Flow<'a> {
         }
     }
 
-    // A message is to have a line of its own.
+    // Ends the line of the progress: a message has one of its own.
     fn end_line(&self) {
         if let Some(progress) = self.progress {
             progress.end_line();
@@ -79,21 +78,21 @@ impl<'a> Flow<'a> {
 
     fn refused(&self, number: u32) -> Failure {
         self.end_line();
-        messages::refused(self.ways.errors, self.ways.name, number)
+        self.ways.input.refused(number)
     }
 
     // `--strict` stops at a fault.
     fn stopped(&self, fault: Fault) -> Failure {
         self.end_line();
-        messages::stopped(self.ways.errors, self.ways.name, fault, self.wish.lines)
+        self.ways.input.stopped(fault, self.wish.lines)
     }
 
     // Writes what a call wrote to out, and counts it.
     fn put(&mut self, out: &[u8], counts: Counts, bytes: usize) -> Result<(), Failure> {
-        let written = first(out, counts.written);
+        let written = up_to(out, counts.written);
         if let Err(why) = self.ways.to.write_all(written) {
             self.end_line();
-            return Err(failed(self.ways.errors, self.ways.out_name, &why));
+            return Err(self.ways.output.failed(&why));
         }
         let chars = if self.wish.summary {
             starts(written)
@@ -116,16 +115,13 @@ impl<'a> Flow<'a> {
         let (next, counts) = begun.clean(bytes, out);
         let counts = counts.map_err(|number| self.refused(number))?;
         self.cleaner = next;
-        if self.wish.strict
-            && has_fault(counts, true)
-            && let Some(fault) = begun.first(true, bytes, out)
-        {
-            return Err(self.stopped(fault));
+        if self.wish.strict && has_fault(counts, true) {
+            return Err(self.stopped(begun.first(true, bytes, out)));
         }
         self.put(out, counts, bytes.len())?;
         if self.wish.is_placed() {
             if self.first.is_none() && has_fault(counts, false) {
-                self.first = begun.first(false, bytes, out);
+                self.first = Some(begun.first(false, bytes, out));
             }
             self.spot = self.spot.after(bytes);
         }
@@ -164,7 +160,7 @@ impl<'a> Flow<'a> {
             }
             Err(why) => {
                 self.end_line();
-                Err(failed(self.ways.errors, self.ways.name, &why))
+                Err(self.ways.input.failed(&why))
             }
         }
     }
@@ -192,44 +188,34 @@ impl<'a> Flow<'a> {
                 progress.end(self.sums.bytes_read);
             }
             if self.wish.summary {
-                messages::summary(self.ways.errors, self.sums, self.first);
+                messages::summary(self.ways.input.errors, self.sums, self.first);
             }
         }
         if ended != Err(Failure::Strict) {
-            messages::warning(
-                self.ways.errors,
-                self.ways.name,
-                self.sums.lost,
-                self.wish.lines,
-            );
+            self.ways.input.warning(self.sums.lost, self.wish.lines);
         }
-    }
-
-    // Cleans all, and ends the output: with -o it reaches its device.
-    fn run(&mut self) -> Result<(), Failure> {
-        let ended = self.all();
-        self.say_end(ended);
-        ended?;
-        self.ways
-            .to
-            .settle()
-            .map_err(|why| failed(self.ways.errors, self.ways.out_name, &why))
     }
 }
 
-// Cleans an open input to an open output, to its end, and closes both. The progress is shown by the system's clock, where there is one.
+// Cleans an open input to an open output, to its end, and closes both; with -o the output has reached its device then. The progress is
+// shown by the system's clock, where there is one.
 pub fn clean(
     system: Option<HostRuntime>,
     mut ways: Ways<'_>,
     page: &[u32],
     wish: Wish,
 ) -> Result<(), Failure> {
+    let about = ways.input;
     let progress = if wish.progress {
-        let progress = Progress::begin(system, ways.errors, &mut ways.from);
-        Some(progress.map_err(|why| failed(ways.errors, ways.name, &why))?)
+        let begun = Progress::begin(system, about.errors, &mut ways.from);
+        Some(begun.map_err(|why| about.failed(&why))?)
     } else {
         None
     };
     let mut flow = Flow::new(ways, page, wish, progress);
-    flow.run()
+    let ended = flow.all();
+    flow.say_end(ended);
+    ended?;
+    let about = flow.ways.output;
+    flow.ways.to.settle().map_err(|why| about.failed(&why))
 }

@@ -23,7 +23,7 @@ mod ways;
 
 use arguments::{Stop, Wish};
 use failure::{Failure, status};
-use messages::{failed, no_input};
+use messages::{About, no_input};
 use own_page::NUMBERS;
 use std::fs::File;
 use std::io;
@@ -36,10 +36,8 @@ const NOT_OPEN: i32 = 9;
 
 // Whether a standard stream is closed.
 fn is_closed(stream: &impl AsFd) -> bool {
-    match stream.as_fd().try_clone_to_owned() {
-        Ok(_) => false,
-        Err(why) => why.raw_os_error() == Some(NOT_OPEN),
-    }
+    let copied = stream.as_fd().try_clone_to_owned();
+    copied.is_err_and(|why| why.raw_os_error() == Some(NOT_OPEN))
 }
 
 // Opens a closed stream on /dev/null, for reading, so that no file that is opened later gets its number: a message would land
@@ -68,6 +66,10 @@ struct Task<'a> {
 }
 
 impl Task<'_> {
+    fn about<'b>(self, name: &'b [u8]) -> About<'b> {
+        About::new(self.rt.stderr(), name)
+    }
+
     // The input that the arguments name: FILE, or standard input for none or `-`.
     fn run(self) -> Result<(), Failure> {
         let Some(i) = self.wish.file else {
@@ -78,56 +80,53 @@ impl Task<'_> {
         if matches!(name, b"-") {
             return self.from_standard();
         }
-        let file = names::open(self.rt, name).map_err(|why| failed(self.rt.stderr(), name, &why))?;
-        self.output(Input::Named(file), name)
+        let input = self.about(name);
+        let file = names::open(self.rt, name).map_err(|why| input.failed(&why))?;
+        self.output(Input::Named(file), input)
     }
 
     fn from_standard(self) -> Result<(), Failure> {
         if self.is_closed {
             return Err(no_input(self.rt.stderr()));
         }
-        self.output(Input::Standard(self.rt.stdin()), b"standard input")
+        let from = Input::Standard(self.rt.stdin());
+        self.output(from, self.about(b"standard input"))
     }
 
     // Standard output, or the new file that -o names.
-    fn output(self, from: Input, name: &[u8]) -> Result<(), Failure> {
+    fn output(self, from: Input, input: About<'_>) -> Result<(), Failure> {
         match self.wish.out {
-            None => self.to_standard(from, name),
-            Some(i) => self.to_file(from, name, i),
+            None => self.to_standard(from, input),
+            Some(i) => self.to_file(from, input, i),
         }
     }
 
-    fn to_standard(self, from: Input, name: &[u8]) -> Result<(), Failure> {
+    fn to_standard(self, from: Input, input: About<'_>) -> Result<(), Failure> {
         let ways = Ways {
             from,
             to: Output::Standard(self.rt.stdout()),
-            name,
-            out_name: b"standard output",
-            errors: self.rt.stderr(),
+            input,
+            output: self.about(b"standard output"),
         };
         flow::clean(Some(*self.rt), ways, self.page, self.wish)
     }
 
     // Cleans to the new file that argument i names, which is removed again where all is not written. A file that is there stays as it
     // is: to replace it by a temporary one would replace a device or a link.
-    fn to_file(self, from: Input, name: &[u8], i: usize) -> Result<(), Failure> {
+    fn to_file(self, from: Input, input: About<'_>, i: usize) -> Result<(), Failure> {
         let mut path = names::room();
-        let out_name = names::argument(self.rt, i, &mut path);
-        let file = names::create(self.rt, out_name).map_err(|why| messages::not_made(
-            self.rt.stderr(),
-            out_name,
-            &why,
-        ))?;
+        let name = names::argument(self.rt, i, &mut path);
+        let output = self.about(name);
+        let file = names::create(self.rt, name).map_err(|why| output.not_made(&why))?;
         let ways = Ways {
             from,
             to: Output::Named(file),
-            name,
-            out_name,
-            errors: self.rt.stderr(),
+            input,
+            output,
         };
         let cleaned = flow::clean(Some(*self.rt), ways, self.page, self.wish);
         if cleaned.is_err() {
-            let _ = names::remove(self.rt, out_name);
+            let _ = names::remove(self.rt, name);
         }
         cleaned
     }
@@ -157,22 +156,18 @@ fn with_given_page(rt: &HostRuntime, wish: Wish, is_closed: bool) -> Result<(), 
     task.run()
 }
 
-// A text on standard output.
-fn told(errors: Stderr, said: io::Result<()>) -> Result<(), Failure> {
-    said.map_err(|why| failed(errors, b"standard output", &why))
-}
-
 fn command(rt: &HostRuntime) -> Result<(), Failure> {
     let errors = rt.stderr();
     let is_closed = is_closed(&rt.stdin());
-    fill_standard(rt).map_err(|why| failed(errors, b"/dev/null", &why))?;
+    fill_standard(rt).map_err(|why| About::new(errors, b"/dev/null").failed(&why))?;
+    let output = About::new(errors, b"standard output");
     match arguments::read(rt) {
         Ok(wish) => match wish.page {
             None => with_given_page(rt, wish, is_closed),
             Some(i) => with_own_page(rt, wish, i, is_closed),
         },
-        Err(Stop::Help) => told(errors, messages::help(rt.stdout())),
-        Err(Stop::Version) => told(errors, messages::version(rt.stdout())),
+        Err(Stop::Help) => messages::help(rt.stdout()).map_err(|why| output.failed(&why)),
+        Err(Stop::Version) => messages::version(rt.stdout()).map_err(|why| output.failed(&why)),
         Err(Stop::Wrong(why, i)) => Err(messages::wrong(rt, errors, why, i)),
     }
 }
@@ -185,9 +180,8 @@ fn clean_standard(from: Stdin, to: Stdout, errors: Stderr) -> Result<(), Failure
     let ways = Ways {
         from: Input::Standard(from),
         to: Output::Standard(to),
-        name: b"standard input",
-        out_name: b"standard output",
-        errors,
+        input: About::new(errors, b"standard input"),
+        output: About::new(errors, b"standard output"),
     };
     flow::clean(None, ways, &page_15::page(), Wish::default())
 }

@@ -25,47 +25,11 @@ impl Display for Words {
     }
 }
 
-// A line on something by its name, whose bytes may be no UTF-8: `yeshorit: NAME: WHAT`.
-fn tell(errors: Stderr, name: &[u8], what: impl Display + Drop) {
-    let _ = eprint!(errors; "yeshorit: ");
-    let _ = errors.write_all(name);
-    let _ = eprintln!(errors; ": {what}");
-}
-
-// Why a call failed.
-pub fn failed(errors: Stderr, name: &[u8], why: &io::Error) -> Failure {
-    tell(errors, name, Words(*why));
-    Failure::Failed
-}
-
-// Standard input was closed when the command began.
-pub fn no_input(errors: Stderr) -> Failure {
-    let _ = eprintln!(errors; "yeshorit: standard input is closed");
-    Failure::Failed
-}
-
-// The file of -o can't be made.
-pub fn not_made(errors: Stderr, name: &[u8], why: &io::Error) -> Failure {
-    tell(errors, name, Words(*why));
-    if why.kind() == ErrorKind::AlreadyExists {
-        let _ = eprintln!(errors;
-            "-o makes new files only: remove that file, or give another name."
-        );
-    }
-    Failure::Failed
-}
-
-// A file has no page.
-pub fn no_page(errors: Stderr, name: &[u8], why: NoPage) -> Failure {
-    tell(errors, name, format_args!("no page: {why}"));
-    let _ = eprintln!(errors; "Without --page the page of Unicode 15.0.0 is used.");
-    Failure::Wrong
-}
-
-// The cleaner refuses a call. Pages are accepted and there is room for every block, so it refuses none.
-pub fn refused(errors: Stderr, name: &[u8], number: u32) -> Failure {
-    tell(errors, name, format_args!("refused ({number})"));
-    Failure::Failed
+// Something by its name, whose bytes may be no UTF-8, and where what is said about it goes.
+#[derive(Clone, Copy)]
+pub struct About<'a> {
+    pub errors: Stderr,
+    name: &'a [u8],
 }
 
 // What is to be done about a line end inside an escape.
@@ -77,32 +41,81 @@ fn on_lost(lines: bool) -> &'static str {
     }
 }
 
-// `--strict` stops at a fault.
-pub fn stopped(errors: Stderr, name: &[u8], fault: Fault, lines: bool) -> Failure {
-    tell(errors, name, fault);
-    let _ = match fault.kind {
-        Kind::NoUtf8 { .. } => eprintln!(errors; "Without --strict they become U+FFFD."),
-        Kind::Lost => eprintln!(errors; "{}", on_lost(lines)),
-    };
-    Failure::Strict
+impl<'a> About<'a> {
+    pub fn new(errors: Stderr, name: &'a [u8]) -> Self {
+        About { errors, name }
+    }
+
+    // A line: `yeshorit: NAME: WHAT`.
+    fn tell(self, what: impl Display + Drop) {
+        let _ = eprint!(self.errors; "yeshorit: ");
+        let _ = self.errors.write_all(self.name);
+        let _ = eprintln!(self.errors; ": {what}");
+    }
+
+    // A call failed.
+    pub fn failed(self, why: &io::Error) -> Failure {
+        self.tell(Words(*why));
+        Failure::Failed
+    }
+
+    // The file of -o can't be made.
+    pub fn not_made(self, why: &io::Error) -> Failure {
+        let failure = self.failed(why);
+        if why.kind() == ErrorKind::AlreadyExists {
+            let _ = eprintln!(self.errors;
+                "-o makes new files only: remove that file, or give another name."
+            );
+        }
+        failure
+    }
+
+    // A file has no page.
+    pub fn no_page(self, why: NoPage) -> Failure {
+        self.tell(format_args!("no page: {why}"));
+        let _ = eprintln!(self.errors; "Without --page the page of Unicode 15.0.0 is used.");
+        Failure::Wrong
+    }
+
+    // The cleaner refuses a call. Pages are accepted and there is room for every block, so it refuses none.
+    pub fn refused(self, number: u32) -> Failure {
+        self.tell(format_args!("refused ({number})"));
+        Failure::Failed
+    }
+
+    // `--strict` stops at a fault.
+    pub fn stopped(self, fault: Fault, lines: bool) -> Failure {
+        self.tell(fault);
+        let _ = match fault.kind {
+            Kind::NoUtf8 { .. } => eprintln!(self.errors; "Without --strict they become U+FFFD."),
+            Kind::Lost => eprintln!(self.errors; "{}", on_lost(lines)),
+        };
+        Failure::Strict
+    }
+
+    // Line ends stood inside escapes, if there are any.
+    pub fn warning(self, lost: u64, lines: bool) {
+        let (before, behind) = match lost {
+            0 => return,
+            1 => (
+                "line end stood inside an escape sequence",
+                "is gone: a row may be lost.",
+            ),
+            _ => (
+                "line ends stood inside escape sequences",
+                "are gone: rows may be lost.",
+            ),
+        };
+        let _ = eprint!(self.errors; "yeshorit: warning: {lost} {before} in ");
+        let _ = self.errors.write_all(self.name);
+        let _ = eprintln!(self.errors; " and {behind} {}", on_lost(lines));
+    }
 }
 
-// Line ends that stood inside escapes, if there are any.
-pub fn warning(errors: Stderr, name: &[u8], lost: u64, lines: bool) {
-    let (before, behind) = match lost {
-        0 => return,
-        1 => (
-            "line end stood inside an escape sequence",
-            "is gone: a row may be lost.",
-        ),
-        _ => (
-            "line ends stood inside escape sequences",
-            "are gone: rows may be lost.",
-        ),
-    };
-    let _ = eprint!(errors; "yeshorit: warning: {lost} {before} in ");
-    let _ = errors.write_all(name);
-    let _ = eprintln!(errors; " and {behind} {}", on_lost(lines));
+// Standard input was closed when the command began.
+pub fn no_input(errors: Stderr) -> Failure {
+    let _ = eprintln!(errors; "yeshorit: standard input is closed");
+    Failure::Failed
 }
 
 // What was done, one number to a line, and where the first bytes stood that are no UTF-8.
@@ -140,14 +153,7 @@ pub fn wrong(rt: &impl Env, errors: Stderr, why: Wrong, i: usize) -> Failure {
     Failure::Wrong
 }
 
-pub fn version(to: Stdout) -> io::Result<()> {
-    println!(to; "yeshorit 0.1 (page of Unicode 15.0.0)")
-}
-
-pub fn help(to: Stdout) -> io::Result<()> {
-    to.print(HELP)
-}
-
+// The text of `--help`.
 const HELP: &str = "Usage: yeshorit [OPTION]... [FILE]
 
 Cleans text: reads FILE, or standard input for none or -, and writes to standard output. Bytes that are no
@@ -168,3 +174,11 @@ UTF-8 become U+FFFD; what comes out is valid UTF-8. -- ends the options.
 Exit status: 0 all is read, cleaned and written; 1 reading, writing or opening failed;
 2 a wrong argument or page, and nothing is read; 3 --strict stopped.
 ";
+
+pub fn version(to: Stdout) -> io::Result<()> {
+    println!(to; "yeshorit 0.1 (page of Unicode 15.0.0)")
+}
+
+pub fn help(to: Stdout) -> io::Result<()> {
+    to.print(HELP)
+}

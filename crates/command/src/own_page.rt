@@ -1,8 +1,8 @@
 // A page out of a file.
 use crate::failure::Failure;
-use crate::messages::{failed, no_page};
+use crate::messages::About;
 use crate::names;
-use command_bytes::front::first;
+use command_bytes::front::up_to;
 use command_bytes::numbers::{ParseError, numbers};
 use std::io::Read;
 use std::{fmt, io};
@@ -52,7 +52,7 @@ fn page_of<'a>(text: &[u8], out: &'a mut [u32]) -> Result<&'a [u32], NoPage> {
         return Err(NoPage::TooLong);
     }
     let n = numbers(text, out)?;
-    let page = first(out, n);
+    let page = up_to(out, n);
     if !page::is_accepted(page) {
         return Err(NoPage::Refused);
     }
@@ -63,10 +63,11 @@ fn page_of<'a>(text: &[u8], out: &'a mut [u32]) -> Result<&'a [u32], NoPage> {
 pub fn read<'a>(rt: &HostRuntime, i: usize, out: &'a mut [u32]) -> Result<&'a [u32], Failure> {
     let mut path = names::room();
     let name = names::argument(rt, i, &mut path);
+    let about = About::new(rt.stderr(), name);
     match text_of(rt, name) {
-        Ok(text) => page_of(&text, out).map_err(|why| no_page(rt.stderr(), name, why)),
+        Ok(text) => page_of(&text, out).map_err(|why| about.no_page(why)),
         Err(why) => {
-            failed(rt.stderr(), name, &why);
+            about.failed(&why);
             Err(Failure::Wrong)
         }
     }

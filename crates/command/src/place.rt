@@ -156,21 +156,15 @@ impl Begun<'_> {
         (done.next, counted(done.answer))
     }
 
-    // The counts of the block's first bytes, where they have a fault.
-    fn fault_counts(self, lost_too: bool, bytes: &[u8], out: &mut [u8]) -> Option<Counts> {
-        self.clean(bytes, out)
-            .1
-            .ok()
-            .filter(|&counts| has_fault(counts, lost_too))
-    }
-
-    // The fewest first bytes that have a fault, where all have one: found by halves, since the counts of more bytes are no smaller.
+    // The fewest first bytes that have a fault, where all have one: found by halves, since the counts of more bytes are no smaller. Std
+    // searches slices by what is in a place, and here each place takes a clean of all before it.
     fn least<'b>(self, lost_too: bool, bytes: &'b [u8], out: &mut [u8]) -> &'b [u8] {
         let mut low = 0;
         let mut high = bytes.len();
         while 1 < high - low {
             let middle = low + (high - low) / 2;
-            if self.fault_counts(lost_too, &bytes[..middle], out).is_some() {
+            let (_, counts) = self.clean(&bytes[..middle], out);
+            if counts.is_ok_and(|counts| has_fault(counts, lost_too)) {
                 high = middle;
             } else {
                 low = middle;
@@ -180,17 +174,20 @@ impl Begun<'_> {
     }
 
     // The first fault of a block that has one. It uses the places of out.
-    pub fn first(self, lost_too: bool, bytes: &[u8], out: &mut [u8]) -> Option<Fault> {
+    pub fn first(self, lost_too: bool, bytes: &[u8], out: &mut [u8]) -> Fault {
         let part = self.least(lost_too, bytes, out);
-        let counts = self.fault_counts(lost_too, part, out)?;
-        let (last, before) = part.split_last()?;
+        let (_, counts) = self.clean(part, out);
+        let replaced = counts.map_or(0, |counts| counts.replaced);
+        let [before @ .., last] = part else {
+            return Fault::lost(self.spot);
+        };
         let end = self.spot.after(before);
         // The bytes that are no UTF-8 end before the last one, or are that one.
-        Some(match (counts.replaced, is_lone(*last)) {
-            (0, _) => Fault::lost(end),
-            (1, true) => Fault::no_utf_8(self.spot.after(part), 1),
-            (n, true) => Fault::no_utf_8(end, n - 1),
-            (n, false) => Fault::no_utf_8(end, n),
-        })
+        match replaced {
+            0 => Fault::lost(end),
+            1 if is_lone(*last) => Fault::no_utf_8(self.spot.after(part), 1),
+            n if is_lone(*last) => Fault::no_utf_8(end, n - 1),
+            n => Fault::no_utf_8(end, n),
+        }
     }
 }

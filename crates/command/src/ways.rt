@@ -1,6 +1,7 @@
 // Where the command reads and writes: a file that an argument names, or a standard stream.
+use crate::messages::About;
 use std::fs::File;
-use std::io::{Read, Seek, SeekFrom, Stderr, Stdin, Stdout, Write};
+use std::io::{Read, Seek, SeekFrom, Stdin, Stdout, Write};
 use std::os::unix::fs::FileTypeExt;
 use std::str::from_utf8;
 use std::{fs, io};
@@ -17,14 +18,13 @@ pub enum Output {
     Named(File),
 }
 
-// The input and the output, what messages call them, and where messages go.
+// The input and the output, and where what is said about each goes.
 #[derive(Drop)]
 pub struct Ways<'a> {
     pub from: Input,
     pub to: Output,
-    pub name: &'a [u8],
-    pub out_name: &'a [u8],
-    pub errors: Stderr,
+    pub input: About<'a>,
+    pub output: About<'a>,
 }
 
 impl Read for Input {

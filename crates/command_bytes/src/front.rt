@@ -2,7 +2,7 @@
 ghost use Rattle.std.specs.Prelude.{◌≡◌, take};
 
 // The first n; all, where there are fewer.
-pub fn first<T>(all: &[T], n: usize) -> &[T]
+pub fn up_to<T>(all: &[T], n: usize) -> &[T]
     ensures { result.now ≡ take n all.now }
 {
     &all[..n.min(all.len())]

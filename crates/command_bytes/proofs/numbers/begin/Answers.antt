@@ -1,6 +1,6 @@
-use Rattle.std.proofs.Common.{rules, ◌<◌, ◌≤◌, ◌≡◌, length, arith}
+use Rattle.std.proofs.Common.{arith}
 use Rattle.std.proofs.lemmas.Bool.Decides.{nat_tests}
-use Rattle.command_bytes.specs.Words.{is_blank, begin_of}
+use Rattle.command_bytes.specs.Words.{begin_of}
 use Rattle.command_bytes.proofs.numbers.begin.Goals as goal
 
 pub returns-in-80-clause-begin : goal.returns-in-80-clause-begin

@@ -1,10 +1,10 @@
 -- `command_bytes::numbers::numbers`: each step is one byte more (`Words`).
-use Rattle.std.proofs.Common.{◌<◌, ◌≤◌, ◌≡◌, length, SomeIff, ℕ, ◌+◌, ◌-◌, ◌*◌, false, refl, Option, Some, None, Result, Ok, Err, take, drop, sym, ap, ◌∙◌, arith, length-drop}
+use Rattle.std.proofs.Common.{◌≡◌, length, SomeIff, ℕ, ◌-◌, false, refl, Option, Some, None, Ok, Err, take, drop, sym, ap, ◌∙◌, arith, length-drop}
 use Rattle.std.proofs.lemmas.Result.{err_from_is_err_and}
 use Rattle.std.specs.Option.{ok_or}
 use lib.Seq.{take_all}
 use Rattle.command_bytes.specs.declared.numbers.ParseError.{ParseError}
-use Rattle.command_bytes.specs.Words.{read_from, read_in, numbers_of}
+use Rattle.command_bytes.specs.Words.{read_from, numbers_of}
 use Rattle.command_bytes.proofs.Words.{left_past, left_blank, left_bad, left_many, left_large, left_on, place_passed}
 use Rattle.command_bytes.proofs.numbers.numbers.Goals as goal
 
