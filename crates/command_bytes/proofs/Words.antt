@@ -3,6 +3,8 @@
 --     Follows                                                how many words have begun, by the last
 --     left_past                                              past the end
 --     left_blank, left_bad, left_many, left_large, left_on   the byte at i, and what is left
+--     place_passed                                           a word's place is no larger than the bytes passed
+--     steps                                                  all of these
 use Rattle.std.proofs.Common.{◌≡◌, ℕ, ◌+◌, ◌*◌, ◌<◌, ◌≤◌, Bool, true, false, cond, List, [], ◌∷◌, Option, Some, None, Ok, Err, length, get_or, drop, refl, ◌∙◌, add-one, arith, drop-cons}
 use Rattle.std.proofs.Math.ListN.{set, drop_of_length-le}
 use Rattle.std.specs.Option.{unwrap_or}
@@ -101,3 +103,5 @@ left_on n (Some w) ps l i h b d m g f = read_on n w.0 w.1 true ps l i h b d m g 
 pub place_passed : (n i : ℕ) (word : Option (ℕ × ℕ)) → Follows n word → n ≤ i → (unwrap_or word (n, 0)).0 ≤ i
 place_passed n i None f h = h
 place_passed n i (Some w) f h = omega (arith, f, h)
+
+pub ruleset steps = (left_past, left_blank, left_bad, left_many, left_large, left_on, place_passed)

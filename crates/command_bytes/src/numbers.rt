@@ -19,6 +19,7 @@ fn is_blank(b: u8) -> bool
 }
 
 // "Characters are hexadecimal": the value of a digit.
+#[tactic(auto, using(std::proofs::lemmas::Bool::Decides::nat_tests), unfolding(crate::specs::Digits::digit_of))]
 fn digit(b: u8) -> Option<u32>
     ensures { SomeIff result (digit_of b < 16) (digit_of b) }
 {
@@ -26,6 +27,7 @@ fn digit(b: u8) -> Option<u32>
 }
 
 // Where the numbers begin: behind the word `P`.
+#[tactic(auto, using(std::proofs::lemmas::Bool::Decides::nat_tests), unfolding(crate::specs::Words::begin_of))]
 fn begin(text: &[u8]) -> usize
     ensures low { result ≤ length text.now }
     ensures begin { result ≡ begin_of text.now }
@@ -37,6 +39,7 @@ fn begin(text: &[u8]) -> usize
 }
 
 // Stores the numbers of a text, and answers how many it has. A word's number is stored anew with each of its digits.
+#[tactic(auto, using(crate::proofs::Words::steps), unfolding(crate::specs::Words::numbers_of))]
 pub fn numbers(text: &[u8], out: &mut [u32]) -> Result<usize, ParseError>
     ensures { read_in result out.new ≡ numbers_of text.now out.old }
 {
