@@ -11,7 +11,7 @@ pub enum Failure {
     Strict = 3,
 }
 
-// The exit status.
+// The exit status: a number, as C and std's `ExitCode` take it.
 pub fn status(ended: Result<(), Failure>) -> u8 {
     match ended {
         Ok(()) => 0,

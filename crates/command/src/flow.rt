@@ -10,7 +10,7 @@ use command_bytes::front::up_to;
 use std::io::{Read, Write};
 use text_clean::{Cleaner, Counts};
 
-// How many bytes are read at a time, and the room for what is cleaned of them.
+// How many bytes are read at a time, and the room for what is cleaned of them. Both are arrays: the command has no heap.
 const BLOCK: usize = 65536;
 
 const ROOM: usize = 3 * 65536 + 13;

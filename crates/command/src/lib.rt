@@ -31,7 +31,7 @@ use std::io::{Stderr, Stdin, Stdout};
 use std::os::fd::{AsFd, IntoRawFd};
 use ways::{Input, Output, Ways};
 
-// What the system answers where a descriptor is not open.
+// What the system answers where a descriptor is not open: std has no kind for it.
 const NOT_OPEN: i32 = 9;
 
 // Whether a standard stream is closed.
@@ -132,7 +132,7 @@ impl Task<'_> {
     }
 }
 
-// With the page of the file that argument i names.
+// With the page of the file that argument i names. Its numbers stand in places that are lent: the command has no heap.
 fn with_own_page(rt: &HostRuntime, wish: Wish, i: usize, is_closed: bool) -> Result<(), Failure> {
     let mut numbers = [0; NUMBERS];
     let page = own_page::read(rt, i, &mut numbers)?;

@@ -7,7 +7,7 @@ use crate::own_page::NoPage;
 use crate::place::{Fault, Kind};
 use std::env::Env;
 use std::fmt::{Display, InlineText};
-use std::io::{Eprint, ErrorKind, Print, Stderr, Stdout};
+use std::io::{ErrorKind, Stderr, Stdout};
 use std::{fmt, io};
 
 // The system's words for an error, behind which std puts ` (os error `, its number and `)`.
@@ -93,7 +93,7 @@ impl<'a> About<'a> {
         Failure::Strict
     }
 
-    // Line ends stood inside escapes, if there are any.
+    // Line ends stood inside escapes and are gone, if any did.
     pub fn warning(self, lost: u64, lines: bool) {
         let (before, behind) = match lost {
             0 => return,

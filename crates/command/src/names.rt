@@ -8,7 +8,7 @@ use std::{fs, io};
 // The most bytes of an argument.
 const ROOM: usize = 4096;
 
-// What an argument is read into: std fills what it is lent.
+// What an argument is read into: the command has no heap, and std fills what it is lent.
 pub fn room() -> [u8; ROOM] {
     [0; ROOM]
 }

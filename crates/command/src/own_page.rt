@@ -10,8 +10,10 @@ use std::{fmt, io};
 // The numbers of the longest page that is accepted: 2 sizes, and twice the ranges, 2,048 of each kind.
 pub const NUMBERS: usize = 8194;
 
-// The most bytes of such a file.
+// The most bytes of such a file, and the room for it: a byte more is a file that is too long.
 const TEXT: usize = 65536;
+
+const ROOM: usize = TEXT + 1;
 
 // Why a file has no page.
 #[derive(Clone, Copy, Debug, PartialEq, Eq, Hash)]
@@ -38,12 +40,11 @@ impl fmt::Display for NoPage {
     }
 }
 
-// The bytes of a file; one more than is allowed, where it has more.
-fn text_of(rt: &HostRuntime, name: &[u8]) -> io::Result<Vec<u8>> {
-    let mut text = Vec::new(rt.alloc());
-    let file = names::open(rt, name)?;
-    file.take(TEXT as u64 + 1).read_to_end(&mut text)?;
-    Ok(text)
+// The bytes of a file, which stand in the room, as far as there is room.
+fn text_of<'a>(rt: &HostRuntime, name: &[u8], room: &'a mut [u8]) -> io::Result<&'a [u8]> {
+    let mut file = names::open(rt, name)?.take(room.len() as u64);
+    let n = io::copy(&mut file, &mut &mut *room)?;
+    Ok(up_to(room, n as usize))
 }
 
 // The page of a text, which stands in the first places of out.
@@ -64,8 +65,9 @@ pub fn read<'a>(rt: &HostRuntime, i: usize, out: &'a mut [u32]) -> Result<&'a [u
     let mut path = names::room();
     let name = names::argument(rt, i, &mut path);
     let about = About::new(rt.stderr(), name);
-    match text_of(rt, name) {
-        Ok(text) => page_of(&text, out).map_err(|why| about.no_page(why)),
+    let mut room = [0; ROOM];
+    match text_of(rt, name, &mut room) {
+        Ok(text) => page_of(text, out).map_err(|why| about.no_page(why)),
         Err(why) => {
             about.failed(&why);
             Err(Failure::Wrong)

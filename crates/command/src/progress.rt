@@ -1,7 +1,7 @@
 // The line of the progress, on standard error.
 use crate::ways::Input;
 use std::io;
-use std::io::{Eprint, Stderr};
+use std::io::Stderr;
 use std::time::Clock;
 
 #[derive(Clone, Copy)]
@@ -11,7 +11,7 @@ pub struct Progress {
     system: Option<HostRuntime>,
     // When the clean began, in seconds.
     start: Option<u64>,
-    // How many bytes the input has.
+    // How many bytes the input has, where that is known.
     size: Option<u64>,
     // When the line was last shown, in seconds.
     shown: Option<u64>,
@@ -56,7 +56,7 @@ impl Progress {
     }
 
     // Shows how many bytes are read, over the line before.
-    pub fn show(&self, read: u64) {
+    fn show(&self, read: u64) {
         let _ = eprint!(self.errors; "\ryeshorit: {read} bytes");
         if let Some(size) = self.size {
             let _ = eprint!(self.errors; ", {} %", share(read, size));
