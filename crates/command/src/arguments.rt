@@ -1,31 +1,10 @@
 // What the arguments ask. A file is kept as the number of the argument that names it.
 use crate::names;
-use check::same;
 use std::env::{Env, FillError};
+use text_input::Options;
 
-// What `stop` says: go on with the clean; a text is asked for; or what is wrong with the argument `at`.
-pub const GO: u32 = 0;
-
-pub const HELP: u32 = 1;
-
-pub const VERSION: u32 = 2;
-
-pub const UNKNOWN: u32 = 3;
-
-pub const SECOND_FILE: u32 = 4;
-
-pub const NO_NAME: u32 = 5;
-
-pub const TOO_LONG: u32 = 6;
-
-// What `wants` says: which name the next argument is.
-const NOTHING: u32 = 0;
-
-const OUTPUT: u32 = 1;
-
-const PAGE: u32 = 2;
-
-#[derive(Clone, Copy)]
+// What is asked of a clean.
+#[derive(Clone, Copy, Debug, Default, PartialEq, Eq, Hash)]
 pub struct Wish {
     pub lines: bool,
     pub nel: bool,
@@ -34,140 +13,134 @@ pub struct Wish {
     pub strict: bool,
     pub progress: bool,
     pub summary: bool,
+    // The arguments that name the input, the output and the page.
+    pub file: Option<usize>,
+    pub out: Option<usize>,
+    pub page: Option<usize>,
+}
+
+// Why there is no clean: a text is asked for, or an argument is wrong, which is said by its number.
+#[derive(Clone, Copy, Debug, PartialEq, Eq, Hash)]
+pub enum Stop {
+    Help,
+    Version,
+    Wrong(Wrong, usize),
+}
+
+// What is wrong with an argument.
+#[derive(Clone, Copy, Debug, PartialEq, Eq, Hash)]
+pub enum Wrong {
+    UnknownOption,
+    SecondFile,
+    NoName,
+    TooLong,
+}
+
+// Which name an option wants: that of the output, or of the page.
+#[derive(Clone, Copy, Debug, PartialEq, Eq, Hash)]
+enum Wants {
+    Output,
+    Page,
+}
+
+// The arguments so far.
+#[derive(Clone, Copy, Debug, Default, PartialEq, Eq, Hash)]
+struct Arguments {
+    wish: Wish,
     // `--` stood before: what follows is no option.
-    pub only_files: bool,
-    // The arguments that name the input, the output and the page, or 0.
-    pub file: usize,
-    pub out: usize,
-    pub page: usize,
-    pub stop: u32,
-    pub at: usize,
-    pub wants: u32,
+    only_files: bool,
+    // The next argument is a name, for the option before it.
+    wants: Option<Wants>,
 }
 
-pub fn none() -> Wish {
-    Wish {
-        lines: false,
-        nel: false,
-        lsps: false,
-        units: false,
-        strict: false,
-        progress: false,
-        summary: false,
-        only_files: false,
-        file: 0,
-        out: 0,
-        page: 0,
-        stop: GO,
-        at: 0,
-        wants: NOTHING,
+impl Wish {
+    pub fn options(self) -> Options {
+        Options {
+            nel_compatibility: self.nel,
+            lsps_compatibility: self.lsps,
+            units_compatibility: self.units,
+        }
+    }
+
+    // Whether it is asked where in the input something stands.
+    pub fn is_placed(self) -> bool {
+        self.strict || self.summary
     }
 }
 
-// Whether a word is an option: it begins with `-` and has more than that.
-fn is_option(word: &[u8]) -> bool {
-    if word.len() < 2 {
-        return false;
+impl Arguments {
+    // Takes argument i.
+    fn take(&mut self, word: &[u8], i: usize) -> Result<(), Stop> {
+        match self.wants {
+            Some(wants) => {
+                self.name(wants, word, i);
+                Ok(())
+            }
+            // An option begins with `-` and has more than that.
+            None => match word {
+                [b'-', _, ..] if !self.only_files => self.option(word, i),
+                _ => self.file(i),
+            },
+        }
     }
-    word[0] == b'-'
-}
 
-// Argument i is an option.
-fn option(word: &[u8], i: usize, w: Wish) -> Wish {
-    let mut new = w;
-    if same(word, b"--lines") {
-        new.lines = true;
-    } else if same(word, b"--nel") {
-        new.nel = true;
-    } else if same(word, b"--lsps") {
-        new.lsps = true;
-    } else if same(word, b"--units") {
-        new.units = true;
-    } else if same(word, b"--strict") {
-        new.strict = true;
-    } else if same(word, b"--progress") {
-        new.progress = true;
-    } else if same(word, b"--summary") {
-        new.summary = true;
-    } else if same(word, b"-o") | same(word, b"--output") {
-        new.wants = OUTPUT;
-    } else if same(word, b"--page") {
-        new.wants = PAGE;
-    } else if same(word, b"-h") | same(word, b"--help") {
-        new.stop = HELP;
-    } else if same(word, b"--version") {
-        new.stop = VERSION;
-    } else if same(word, b"--") {
-        new.only_files = true;
-    } else {
-        new.stop = UNKNOWN;
+    // Argument i is the name that the option before it wants. The output `-` is standard output.
+    fn name(&mut self, wants: Wants, word: &[u8], i: usize) {
+        match wants {
+            Wants::Output => self.wish.out = if matches!(word, b"-") { None } else { Some(i) },
+            Wants::Page => self.wish.page = Some(i),
+        }
+        self.wants = None;
     }
-    new.at = i;
-    new
-}
 
-// Argument i is a FILE.
-fn file(i: usize, w: Wish) -> Wish {
-    let mut new = w;
-    if w.file != 0 {
-        new.stop = SECOND_FILE;
-        new.at = i;
-        return new;
+    // Argument i is an option.
+    fn option(&mut self, word: &[u8], i: usize) -> Result<(), Stop> {
+        match word {
+            b"--lines" => self.wish.lines = true,
+            b"--nel" => self.wish.nel = true,
+            b"--lsps" => self.wish.lsps = true,
+            b"--units" => self.wish.units = true,
+            b"--strict" => self.wish.strict = true,
+            b"--progress" => self.wish.progress = true,
+            b"--summary" => self.wish.summary = true,
+            b"-o" | b"--output" => self.wants = Some(Wants::Output),
+            b"--page" => self.wants = Some(Wants::Page),
+            b"--" => self.only_files = true,
+            b"-h" | b"--help" => return Err(Stop::Help),
+            b"--version" => return Err(Stop::Version),
+            _ => return Err(Stop::Wrong(Wrong::UnknownOption, i)),
+        }
+        Ok(())
     }
-    new.file = i;
-    new
-}
 
-// Argument i is the name that the option before it wants. The output `-` is standard output.
-fn name(word: &[u8], i: usize, w: Wish) -> Wish {
-    let mut new = w;
-    if w.wants == OUTPUT {
-        new.out = if same(word, b"-") { 0 } else { i };
-    } else {
-        new.page = i;
+    // Argument i is a FILE.
+    fn file(&mut self, i: usize) -> Result<(), Stop> {
+        if self.wish.file.is_some() {
+            return Err(Stop::Wrong(Wrong::SecondFile, i));
+        }
+        self.wish.file = Some(i);
+        Ok(())
     }
-    new.wants = NOTHING;
-    new
-}
 
-// Takes argument i.
-fn take(word: &[u8], i: usize, w: Wish) -> Wish {
-    if w.wants != NOTHING {
-        return name(word, i, w);
+    // Argument i is the last.
+    fn end(self, i: usize) -> Result<Wish, Stop> {
+        match self.wants {
+            Some(_) => Err(Stop::Wrong(Wrong::NoName, i)),
+            None => Ok(self.wish),
+        }
     }
-    if w.only_files {
-        return file(i, w);
-    }
-    if is_option(word) {
-        return option(word, i, w);
-    }
-    file(i, w)
-}
-
-// Argument i does not fit 4,096 bytes.
-fn too_long(i: usize, w: Wish) -> Wish {
-    let mut wrong = w;
-    wrong.stop = TOO_LONG;
-    wrong.at = i;
-    wrong
 }
 
 // Takes the arguments in their order, up to the first that stops.
-pub fn read(rt: &impl Env) -> Wish {
+pub fn read(rt: &impl Env) -> Result<Wish, Stop> {
     let mut word = names::room();
-    let mut w = none();
+    let mut arguments = Arguments::default();
     for i in 1..usize::MAX {
-        if w.stop != GO {
-            break;
-        }
         match rt.arg(i, &mut word) {
-            Ok(n) => w = take(&word[..n], i, w),
-            Err(FillError::TooLong) => w = too_long(i, w),
-            Err(FillError::NotPresent) => break,
+            Ok(n) => arguments.take(&word[..n], i)?,
+            Err(FillError::TooLong) => return Err(Stop::Wrong(Wrong::TooLong, i)),
+            Err(FillError::NotPresent) => return arguments.end(i - 1),
         }
     }
-    if (w.stop == GO) & (w.wants != NOTHING) {
-        w.stop = NO_NAME;
-    }
-    w
+    arguments.end(usize::MAX - 1)
 }

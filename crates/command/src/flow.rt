@@ -1,26 +1,22 @@
 // Reading, cleaning and writing, block by block, in constant memory.
 use crate::arguments::Wish;
-use crate::messages::Clock;
-use crate::place::{Begun, Fault, Spot, plus};
+use crate::failure::Failure;
+use crate::messages;
+use crate::place::{Begun, Fault, Spot, counted, has_fault, plus};
+use crate::progress::Progress;
 use crate::ways::Ways;
-use crate::{messages, place};
 use command_bytes::counts::starts;
-use command_bytes::front;
+use command_bytes::front::up_to;
 use std::io::{Read, Write};
-use text_clean::{CleanAnswer, Cleaner, Counts};
-use text_input::Options;
+use text_clean::{Cleaner, Counts};
 
-// How the flow stands: on; all done; failed, which was said; stopped by `--strict`, which was said.
-pub const ON: u32 = 0;
+// How many bytes are read at a time, and the room for what is cleaned of them. Both are arrays: the command has no heap.
+const BLOCK: usize = 65536;
 
-pub const ENDED: u32 = 1;
-
-pub const BROKEN: u32 = 2;
-
-pub const STOPPED: u32 = 3;
+const ROOM: usize = 3 * 65536 + 13;
 
 // What was done so far.
-#[derive(Clone, Copy)]
+#[derive(Clone, Copy, Debug, Default, PartialEq, Eq, Hash)]
 pub struct Sums {
     pub bytes_read: u64,
     pub chars_read: u64,
@@ -31,312 +27,195 @@ pub struct Sums {
     pub lost: u64,
 }
 
-#[derive(Clone, Copy)]
-pub struct Total {
-    pub end: u32,
-    pub sums: Sums,
-    // The first bytes that are no UTF-8, for the summary.
-    pub first: Fault,
-    // How far the input is read, for `--strict` and the summary.
-    pub spot: Spot,
-    pub next: Cleaner,
-    // When the progress was last shown, in seconds, or 0.
-    pub shown: u64,
-}
-
-fn no_sums() -> Sums {
-    Sums {
-        bytes_read: 0,
-        chars_read: 0,
-        bytes_written: 0,
-        chars_written: 0,
-        replaced: 0,
-        dropped: 0,
-        lost: 0,
-    }
-}
-
 impl Sums {
-    // With the counts of one call.
-    fn and(self, counts: Counts, bytes: usize, chars: usize) -> Self {
-        Sums {
-            bytes_read: plus(self.bytes_read, bytes),
-            chars_read: plus(self.chars_read, counts.read),
-            bytes_written: plus(self.bytes_written, counts.written),
-            chars_written: plus(self.chars_written, chars),
-            replaced: plus(self.replaced, counts.replaced),
-            dropped: plus(self.dropped, counts.dropped),
-            lost: plus(self.lost, counts.lost),
+    // Adds the counts of one call.
+    fn add(&mut self, counts: Counts, bytes: usize, chars: usize) {
+        self.bytes_read = plus(self.bytes_read, bytes);
+        self.chars_read = plus(self.chars_read, counts.read);
+        self.bytes_written = plus(self.bytes_written, counts.written);
+        self.chars_written = plus(self.chars_written, chars);
+        self.replaced = plus(self.replaced, counts.replaced);
+        self.dropped = plus(self.dropped, counts.dropped);
+        self.lost = plus(self.lost, counts.lost);
+    }
+}
+
+// A clean, as far as it is.
+#[derive(Drop)]
+struct Flow<'a> {
+    ways: Ways<'a>,
+    page: &'a [u32],
+    wish: Wish,
+    progress: Option<Progress>,
+    cleaner: Cleaner,
+    // How far the input is read, for `--strict` and the summary.
+    spot: Spot,
+    sums: Sums,
+    // The first bytes that are no UTF-8, for the summary.
+    first: Option<Fault>,
+}
+
+impl<'a> Flow<'a> {
+    fn new(ways: Ways<'a>, page: &'a [u32], wish: Wish, progress: Option<Progress>) -> Self {
+        Flow {
+            ways,
+            page,
+            wish,
+            progress,
+            cleaner: Cleaner::new(),
+            spot: Spot::default(),
+            sums: Sums::default(),
+            first: None,
+        }
+    }
+
+    // Ends the line of the progress: a message has one of its own.
+    fn end_line(&self) {
+        if let Some(progress) = self.progress {
+            progress.end_line();
+        }
+    }
+
+    fn refused(&self, number: u32) -> Failure {
+        self.end_line();
+        self.ways.input.refused(number)
+    }
+
+    // `--strict` stops at a fault.
+    fn stopped(&self, fault: Fault) -> Failure {
+        self.end_line();
+        self.ways.input.stopped(fault, self.wish.lines)
+    }
+
+    // Writes what a call wrote to out, and counts it.
+    fn put(&mut self, out: &[u8], counts: Counts, bytes: usize) -> Result<(), Failure> {
+        let written = up_to(out, counts.written);
+        if let Err(why) = self.ways.to.write_all(written) {
+            self.end_line();
+            return Err(self.ways.output.failed(&why));
+        }
+        let chars = if self.wish.summary {
+            starts(written)
+        } else {
+            0
+        };
+        self.sums.add(counts, bytes, chars);
+        Ok(())
+    }
+
+    // Cleans a block of bytes that came, and writes it, unless `--strict` stops at it.
+    fn block(&mut self, bytes: &[u8], out: &mut [u8]) -> Result<(), Failure> {
+        let begun = Begun {
+            cleaner: self.cleaner,
+            page: self.page,
+            options: self.wish.options(),
+            lines: self.wish.lines,
+            spot: self.spot,
+        };
+        let (next, counts) = begun.clean(bytes, out);
+        let counts = counts.map_err(|number| self.refused(number))?;
+        self.cleaner = next;
+        if self.wish.strict && has_fault(counts, true) {
+            return Err(self.stopped(begun.first(true, bytes, out)));
+        }
+        self.put(out, counts, bytes.len())?;
+        if self.wish.is_placed() {
+            if self.first.is_none() && has_fault(counts, false) {
+                self.first = Some(begun.first(false, bytes, out));
+            }
+            self.spot = self.spot.after(bytes);
+        }
+        Ok(())
+    }
+
+    // The input ended: bytes that are pending are no UTF-8.
+    fn last(&mut self, out: &mut [u8]) -> Result<(), Failure> {
+        let done = self
+            .cleaner
+            .finish(self.page, self.wish.options(), true, out);
+        let counts = counted(done.answer).map_err(|number| self.refused(number))?;
+        if 0 < counts.replaced {
+            let fault = Fault::no_utf_8(self.spot, counts.replaced);
+            if self.wish.strict {
+                return Err(self.stopped(fault));
+            }
+            self.first = self.first.or(Some(fault));
+        }
+        if self.wish.strict && 0 < counts.lost {
+            return Err(self.stopped(Fault::lost(self.spot)));
+        }
+        self.put(out, counts, 0)
+    }
+
+    // Reads once, cleans what came, and writes it. Answers whether the input goes on.
+    fn turn(&mut self, block: &mut [u8], out: &mut [u8]) -> Result<bool, Failure> {
+        match self.ways.from.read(block) {
+            Ok(0) => {
+                self.last(out)?;
+                Ok(false)
+            }
+            Ok(n) => {
+                self.block(&block[..n], out)?;
+                Ok(true)
+            }
+            Err(why) => {
+                self.end_line();
+                Err(self.ways.input.failed(&why))
+            }
+        }
+    }
+
+    // Reads to the end. A proved loop has to end, and nothing says that the input does: so the turns are counted, up to a number that no
+    // run reaches.
+    fn all(&mut self) -> Result<(), Failure> {
+        let mut block = [0; BLOCK];
+        let mut out = [0; ROOM];
+        for _ in 0..u64::MAX {
+            if !self.turn(&mut block, &mut out)? {
+                return Ok(());
+            }
+            if let Some(progress) = &mut self.progress {
+                progress.show_each_second(self.sums.bytes_read);
+            }
+        }
+        Err(Failure::Failed)
+    }
+
+    // Says what is to be said at the end.
+    fn say_end(&self, ended: Result<(), Failure>) {
+        if ended.is_ok() {
+            if let Some(progress) = self.progress {
+                progress.end(self.sums.bytes_read);
+            }
+            if self.wish.summary {
+                messages::summary(self.ways.input.errors, self.sums, self.first);
+            }
+        }
+        if ended != Err(Failure::Strict) {
+            self.ways.input.warning(self.sums.lost, self.wish.lines);
         }
     }
 }
 
-impl Total {
-    fn new() -> Self {
-        Total {
-            end: ON,
-            sums: no_sums(),
-            first: Fault::none(),
-            spot: Spot::new(),
-            next: Cleaner::new(),
-            shown: 0,
-        }
-    }
-
-    fn ending(self, end: u32) -> Self {
-        let mut new = self;
-        new.end = end;
-        new
-    }
-}
-
-fn options(w: Wish) -> Options {
-    Options {
-        nel_compatibility: w.nel,
-        lsps_compatibility: w.lsps,
-        units_compatibility: w.units,
-    }
-}
-
-// Whether the spot is asked for.
-fn is_placed(w: Wish) -> bool {
-    w.strict | w.summary
-}
-
-// The characters among the first bytes of out, where the summary is asked for.
-fn chars(w: Wish, out: &[u8], n: usize) -> usize {
-    if w.summary {
-        return starts(front::bytes(out, n));
-    }
-    0
-}
-
-// Writes what a call wrote to out, and counts it.
-fn put(ways: &mut Ways<'_>, w: Wish, out: &[u8], counts: Counts, bytes: usize, t: Total) -> Total {
-    if let Err(why) = ways.to.write_all(front::bytes(out, counts.written)) {
-        messages::failed_after(ways.errors, t.shown, ways.out_name, &why);
-        return t.ending(BROKEN);
-    }
-    let sums = t.sums.and(counts, bytes, chars(w, out, counts.written));
-    let first = t.first;
-    let spot = t.spot;
-    let next = t.next;
-    Total {
-        end: t.end,
-        sums,
-        first,
-        spot,
-        next,
-        shown: t.shown,
-    }
-}
-
-// The fault of which `--strict` says that it is there.
-fn stopped(ways: &Ways<'_>, w: Wish, fault: Fault, t: Total) -> Total {
-    messages::fault(ways.errors, t.shown, ways.name, fault, w.lines);
-    t.ending(STOPPED)
-}
-
-// A call was refused. Pages are accepted and there is room for every block, so none is.
-fn refused(ways: &Ways<'_>, number: u32, t: Total) -> Total {
-    messages::refused(ways.errors, t.shown, ways.name, number);
-    t.ending(BROKEN)
-}
-
-// The first bytes that are no UTF-8: those found before, or the first of a block. It uses the places of out.
-fn first_after(
-    before: Fault,
-    begun: Begun,
+// Cleans an open input to an open output, to its end, and closes both; with -o the output has reached its device then. The progress is
+// shown by the system's clock, where there is one.
+pub fn clean(
+    system: Option<HostRuntime>,
+    mut ways: Ways<'_>,
     page: &[u32],
-    counts: Counts,
-    bytes: &[u8],
-    out: &mut [u8],
-) -> Fault {
-    if (before.kind == place::NONE) & place::has_fault(counts, false) {
-        return place::first(begun, false, page, bytes, out);
-    }
-    before
-}
-
-// With the spot behind a block, and the first bytes that are no UTF-8, where they are asked for.
-fn placed(
-    w: Wish,
-    begun: Begun,
-    page: &[u32],
-    counts: Counts,
-    bytes: &[u8],
-    out: &mut [u8],
-    t: Total,
-) -> Total {
-    if !is_placed(w) {
-        return t;
-    }
-    let first = first_after(t.first, begun, page, counts, bytes, out);
-    let sums = t.sums;
-    let spot = t.spot.after(bytes);
-    let next = t.next;
-    Total {
-        end: t.end,
-        sums,
-        first,
-        spot,
-        next,
-        shown: t.shown,
-    }
-}
-
-// A block is cleaned: writes it, unless `--strict` stops at it.
-fn cleaned(
-    ways: &mut Ways<'_>,
-    w: Wish,
-    begun: Begun,
-    page: &[u32],
-    counts: Counts,
-    bytes: &[u8],
-    out: &mut [u8],
-    t: Total,
-) -> Total {
-    if w.strict & place::has_fault(counts, true) {
-        return stopped(ways, w, place::first(begun, true, page, bytes, out), t);
-    }
-    let written = put(ways, w, out, counts, bytes.len(), t);
-    placed(w, begun, page, counts, bytes, out, written)
-}
-
-// With the record after a call.
-fn after(next: Cleaner, t: Total) -> Total {
-    let sums = t.sums;
-    let first = t.first;
-    let spot = t.spot;
-    Total {
-        end: t.end,
-        sums,
-        first,
-        spot,
-        next,
-        shown: t.shown,
-    }
-}
-
-// A block of bytes that came.
-fn block_of(
-    ways: &mut Ways<'_>,
-    page: &[u32],
-    w: Wish,
-    bytes: &[u8],
-    out: &mut [u8],
-    t: Total,
-) -> Total {
-    let record = t.next;
-    let spot = t.spot;
-    let begun = Begun {
-        record,
-        options: options(w),
-        lines: w.lines,
-        spot,
+    wish: Wish,
+) -> Result<(), Failure> {
+    let about = ways.input;
+    let progress = if wish.progress {
+        let begun = Progress::begin(system, about.errors, &mut ways.from);
+        Some(begun.map_err(|why| about.failed(&why))?)
+    } else {
+        None
     };
-    let done = record.clean(page, options(w), w.lines, bytes, out);
-    let answer = done.answer;
-    let now = after(done.next, t);
-    match answer {
-        CleanAnswer::Done(counts) => cleaned(ways, w, begun, page, counts, bytes, out, now),
-        CleanAnswer::Refused(number) => refused(ways, number, now),
-    }
-}
-
-// The end is cleaned: bytes that are pending are no UTF-8.
-fn ended(ways: &mut Ways<'_>, w: Wish, counts: Counts, out: &mut [u8], t: Total) -> Total {
-    let mut first = t.first;
-    if 0 < counts.replaced {
-        let fault = Fault::no_utf_8(t.spot, counts.replaced);
-        if w.strict {
-            return stopped(ways, w, fault, t);
-        }
-        if t.first.kind == place::NONE {
-            first = fault;
-        }
-    }
-    if w.strict & (0 < counts.lost) {
-        return stopped(ways, w, Fault::lost(t.spot), t);
-    }
-    let written = put(ways, w, out, counts, 0, t);
-    let mut end = ENDED;
-    if written.end != ON {
-        end = written.end;
-    }
-    let sums = written.sums;
-    let spot = written.spot;
-    let next = written.next;
-    Total {
-        end,
-        sums,
-        first,
-        spot,
-        next,
-        shown: written.shown,
-    }
-}
-
-// The input ended.
-fn last(ways: &mut Ways<'_>, page: &[u32], w: Wish, out: &mut [u8], t: Total) -> Total {
-    let record = t.next;
-    let done = record.finish(page, options(w), true, out);
-    let answer = done.answer;
-    let now = after(done.next, t);
-    match answer {
-        CleanAnswer::Done(counts) => ended(ways, w, counts, out, now),
-        CleanAnswer::Refused(number) => refused(ways, number, now),
-    }
-}
-
-// Reads once, cleans what came, and writes it.
-fn turn(
-    ways: &mut Ways<'_>,
-    page: &[u32],
-    w: Wish,
-    block: &mut [u8],
-    out: &mut [u8],
-    t: Total,
-) -> Total {
-    match ways.from.read(block) {
-        Err(why) => {
-            messages::failed_after(ways.errors, t.shown, ways.name, &why);
-            t.ending(BROKEN)
-        }
-        Ok(0) => last(ways, page, w, out, t),
-        Ok(n) => block_of(ways, page, w, front::bytes(block, n), out, t),
-    }
-}
-
-// Keeps the line of the progress up to date.
-fn shown(ways: &Ways<'_>, w: Wish, clock: Clock, t: Total) -> Total {
-    if !w.progress | (t.end != ON) {
-        return t;
-    }
-    let mut new = t;
-    new.shown = messages::show_each_second(ways.errors, clock, t.sums.bytes_read, t.shown);
-    new
-}
-
-// Reads to the end. A proved loop has to end, and nothing says that the input does: so the loop counts its turns down, from a number
-// that no run uses up.
-pub fn all(
-    ways: &mut Ways<'_>,
-    page: &[u32],
-    w: Wish,
-    clock: Clock,
-    block: &mut [u8],
-    out: &mut [u8],
-) -> Total {
-    let mut t = Total::new();
-    let mut turns = u64::MAX;
-    while turns > 0 {
-        turns -= 1;
-        t = turn(ways, page, w, block, out, t);
-        t = shown(ways, w, clock, t);
-        if t.end != ON {
-            break;
-        }
-    }
-    t
+    let mut flow = Flow::new(ways, page, wish, progress);
+    let ended = flow.all();
+    flow.say_end(ended);
+    ended?;
+    let about = flow.ways.output;
+    flow.ways.to.settle().map_err(|why| about.failed(&why))
 }

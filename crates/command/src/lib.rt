@@ -1,59 +1,43 @@
 // The command `yeshorit`: cleans a file, bytes to bytes. Here is the way from the arguments to the exit status; the modules have
 //     arguments.rt  what the arguments ask
+//     failure.rt    why the command ends early, and the exit status
 //     own_page.rt   a page out of a file
 //     names.rt      the arguments as bytes, and the files that they name
 //     ways.rt       the input and the output
 //     flow.rt       reading, cleaning and writing, block by block
 //     place.rt      where in the input something stands
 //     messages.rt   what is said
+//     progress.rt   the line of the progress
 // Every function is safe and ends. What is read, written and said no contract can tell: tests/faults holds the built command to it.
 #![tactic(auto)]
 
 mod arguments;
+mod failure;
 mod flow;
 mod messages;
 mod names;
 mod own_page;
 mod place;
+mod progress;
 mod ways;
 
-use arguments::Wish;
-use check::same;
-use command_bytes::front;
-use messages::{failed, tell};
-use own_page::{NUMBERS, OwnPage};
+use arguments::{Stop, Wish};
+use failure::{Failure, status};
+use messages::{About, no_input};
+use own_page::NUMBERS;
 use std::fs::File;
 use std::io;
 use std::io::{Stderr, Stdin, Stdout};
 use std::os::fd::{AsFd, IntoRawFd};
 use ways::{Input, Output, Ways};
 
-// The exit status: all is read, cleaned and written.
-const DONE: u8 = 0;
-
-// Reading, writing or opening failed.
-const FAILED: u8 = 1;
-
-// An argument or the page is wrong, and nothing of the input is read.
-const WRONG: u8 = 2;
-
-// `--strict` stopped.
-const STRICT: u8 = 3;
-
-// How many bytes are read at a time, and the room for what is cleaned of them.
-const BLOCK: usize = 65536;
-
-const ROOM: usize = 3 * 65536 + 13;
-
-// What the system answers where a descriptor is not open.
+// What the system answers where a descriptor is not open: std has no kind for it.
 const NOT_OPEN: i32 = 9;
 
 // Whether a standard stream is closed.
 fn is_closed(stream: &impl AsFd) -> bool {
-    match stream.as_fd().try_clone_to_owned() {
-        Ok(_) => false,
-        Err(why) => why.raw_os_error() == Some(NOT_OPEN),
-    }
+    let copied = stream.as_fd().try_clone_to_owned();
+    copied.is_err_and(|why| why.raw_os_error() == Some(NOT_OPEN))
 }
 
 // Opens a closed stream on /dev/null, for reading, so that no file that is opened later gets its number: a message would land
@@ -71,209 +55,143 @@ fn fill_standard(rt: &HostRuntime) -> io::Result<()> {
     fill(rt, &rt.stderr())
 }
 
-// The exit status by how the flow ended.
-fn status(end: u32) -> u8 {
-    if end == flow::ENDED {
-        DONE
-    } else if end == flow::STOPPED {
-        STRICT
-    } else {
-        FAILED
-    }
+// A clean as the arguments ask it.
+#[derive(Clone, Copy)]
+struct Task<'a> {
+    rt: &'a HostRuntime,
+    wish: Wish,
+    page: &'a [u32],
+    // Whether standard input was closed when the command began.
+    is_closed: bool,
 }
 
-// Cleans all of an open input to an open output. The progress is shown where there is a system's clock.
-fn clean(system: Option<HostRuntime>, ways: &mut Ways<'_>, page: &[u32], w: Wish) -> u8 {
-    let mut block = [0u8; BLOCK];
-    let mut out = [0u8; ROOM];
-    let clock = match messages::begin(system, &mut ways.from, w.progress) {
-        Ok(clock) => clock,
-        Err(why) => {
-            failed(ways.errors, ways.name, &why);
-            return FAILED;
+impl Task<'_> {
+    fn about<'b>(self, name: &'b [u8]) -> About<'b> {
+        About::new(self.rt.stderr(), name)
+    }
+
+    // The input that the arguments name: FILE, or standard input for none or `-`.
+    fn run(self) -> Result<(), Failure> {
+        let Some(i) = self.wish.file else {
+            return self.from_standard();
+        };
+        let mut path = names::room();
+        let name = names::argument(self.rt, i, &mut path);
+        if matches!(name, b"-") {
+            return self.from_standard();
         }
-    };
-    let t = flow::all(ways, page, w, clock, &mut block, &mut out);
-    let end = t.end;
-    if w.progress & (end == flow::ENDED) {
-        messages::show(ways.errors, clock, t.sums.bytes_read);
-        tell(ways.errors, b"\n");
+        let input = self.about(name);
+        let file = names::open(self.rt, name).map_err(|why| input.failed(&why))?;
+        self.output(Input::Named(file), input)
     }
-    if w.summary & (end == flow::ENDED) {
-        let sums = t.sums;
-        let first = t.first;
-        messages::summary(ways.errors, sums, first);
-    }
-    if end != flow::STOPPED {
-        messages::warning(ways.errors, ways.name, t.sums.lost, w.lines);
-    }
-    status(end)
-}
 
-// Ends the output: with -o it reaches its device.
-fn finish(ways: &mut Ways<'_>) -> u8 {
-    match ways.to.settle() {
-        Ok(()) => DONE,
-        Err(why) => {
-            failed(ways.errors, ways.out_name, &why);
-            FAILED
+    fn from_standard(self) -> Result<(), Failure> {
+        if self.is_closed {
+            return Err(no_input(self.rt.stderr()));
+        }
+        let from = Input::Standard(self.rt.stdin());
+        self.output(from, self.about(b"standard input"))
+    }
+
+    // Standard output, or the new file that -o names.
+    fn output(self, from: Input, input: About<'_>) -> Result<(), Failure> {
+        match self.wish.out {
+            None => self.to_standard(from, input),
+            Some(i) => self.to_file(from, input, i),
         }
     }
-}
 
-// Cleans to an open output, to its end.
-fn to_end(system: Option<HostRuntime>, ways: &mut Ways<'_>, page: &[u32], w: Wish) -> u8 {
-    let status = clean(system, ways, page, w);
-    if status != DONE {
-        return status;
+    fn to_standard(self, from: Input, input: About<'_>) -> Result<(), Failure> {
+        let ways = Ways {
+            from,
+            to: Output::Standard(self.rt.stdout()),
+            input,
+            output: self.about(b"standard output"),
+        };
+        flow::clean(Some(*self.rt), ways, self.page, self.wish)
     }
-    finish(ways)
-}
 
-// Cleans to standard output.
-fn to_standard(rt: &HostRuntime, from: Input, name: &[u8], page: &[u32], w: Wish) -> u8 {
-    let mut ways = Ways {
-        from,
-        to: Output::Standard(rt.stdout()),
-        name,
-        out_name: b"standard output",
-        errors: rt.stderr(),
-    };
-    to_end(Some(*rt), &mut ways, page, w)
-}
-
-// Cleans to a new file, which is removed again where all is not written. A file that is there stays as it is: to replace it by a
-// temporary one would replace a device or a link.
-fn to_file(rt: &HostRuntime, from: Input, name: &[u8], page: &[u32], w: Wish) -> u8 {
-    let mut path = names::room();
-    let out_name = names::argument(rt, w.out, &mut path);
-    let to = match names::create(rt, out_name) {
-        Ok(file) => Output::Named(file),
-        Err(why) => {
-            messages::not_made(rt.stderr(), out_name, &why);
-            return FAILED;
+    // Cleans to the new file that argument i names, which is removed again where all is not written. A file that is there stays as it
+    // is: to replace it by a temporary one would replace a device or a link.
+    fn to_file(self, from: Input, input: About<'_>, i: usize) -> Result<(), Failure> {
+        let mut path = names::room();
+        let name = names::argument(self.rt, i, &mut path);
+        let output = self.about(name);
+        let file = names::create(self.rt, name).map_err(|why| output.not_made(&why))?;
+        let ways = Ways {
+            from,
+            to: Output::Named(file),
+            input,
+            output,
+        };
+        let cleaned = flow::clean(Some(*self.rt), ways, self.page, self.wish);
+        if cleaned.is_err() {
+            let _ = names::remove(self.rt, name);
         }
+        cleaned
+    }
+}
+
+// With the page of the file that argument i names. Its numbers stand in places that are lent: the command has no heap.
+fn with_own_page(rt: &HostRuntime, wish: Wish, i: usize, is_closed: bool) -> Result<(), Failure> {
+    let mut numbers = [0; NUMBERS];
+    let page = own_page::read(rt, i, &mut numbers)?;
+    let task = Task {
+        rt,
+        wish,
+        page,
+        is_closed,
     };
-    let mut ways = Ways {
-        from,
-        to,
-        name,
-        out_name,
-        errors: rt.stderr(),
-    };
-    let status = to_end(Some(*rt), &mut ways, page, w);
-    drop(ways);
-    if status != DONE {
-        let _ = names::remove(rt, out_name);
-    }
-    status
-}
-
-fn output(rt: &HostRuntime, from: Input, name: &[u8], page: &[u32], w: Wish) -> u8 {
-    if w.out == 0 {
-        return to_standard(rt, from, name, page, w);
-    }
-    to_file(rt, from, name, page, w)
-}
-
-// What is said of a standard input that was closed when the command began.
-fn no_input(errors: Stderr) -> u8 {
-    tell(errors, b"yeshorit: standard input is closed\n");
-    FAILED
-}
-
-// Standard input. It may have been closed when the command began.
-fn from_standard(rt: &HostRuntime, page: &[u32], w: Wish, is_closed: bool) -> u8 {
-    if is_closed {
-        return no_input(rt.stderr());
-    }
-    output(rt, Input::Standard(rt.stdin()), b"standard input", page, w)
-}
-
-// The input that the arguments name: FILE, or standard input for none or `-`.
-fn input(rt: &HostRuntime, page: &[u32], w: Wish, is_closed: bool) -> u8 {
-    if w.file == 0 {
-        return from_standard(rt, page, w, is_closed);
-    }
-    let mut path = names::room();
-    let name = names::argument(rt, w.file, &mut path);
-    if same(name, b"-") {
-        return from_standard(rt, page, w, is_closed);
-    }
-    match names::open(rt, name) {
-        Ok(file) => output(rt, Input::Named(file), name, page, w),
-        Err(why) => {
-            failed(rt.stderr(), name, &why);
-            FAILED
-        }
-    }
-}
-
-// With the page of a file.
-fn with_own_page(rt: &HostRuntime, w: Wish, is_closed: bool) -> u8 {
-    let mut numbers = [0u32; NUMBERS];
-    match own_page::read(rt, w.page, &mut numbers) {
-        OwnPage::Wrong => WRONG,
-        OwnPage::Is(n) => input(rt, front::numbers(&numbers, n), w, is_closed),
-    }
+    task.run()
 }
 
 // With the page of Unicode 15.0.0.
-fn with_given_page(rt: &HostRuntime, w: Wish, is_closed: bool) -> u8 {
-    let page = page_15::page();
-    input(rt, &page, w, is_closed)
+fn with_given_page(rt: &HostRuntime, wish: Wish, is_closed: bool) -> Result<(), Failure> {
+    let task = Task {
+        rt,
+        wish,
+        page: &page_15::page(),
+        is_closed,
+    };
+    task.run()
 }
 
-// A text on standard output.
-fn told(errors: Stderr, said: io::Result<()>) -> u8 {
-    match said {
-        Ok(()) => DONE,
-        Err(why) => {
-            failed(errors, b"standard output", &why);
-            FAILED
-        }
+fn command(rt: &HostRuntime) -> Result<(), Failure> {
+    let errors = rt.stderr();
+    let is_closed = is_closed(&rt.stdin());
+    fill_standard(rt).map_err(|why| About::new(errors, b"/dev/null").failed(&why))?;
+    let output = About::new(errors, b"standard output");
+    match arguments::read(rt) {
+        Ok(wish) => match wish.page {
+            None => with_given_page(rt, wish, is_closed),
+            Some(i) => with_own_page(rt, wish, i, is_closed),
+        },
+        Err(Stop::Help) => messages::help(rt.stdout()).map_err(|why| output.failed(&why)),
+        Err(Stop::Version) => messages::version(rt.stdout()).map_err(|why| output.failed(&why)),
+        Err(Stop::Wrong(why, i)) => Err(messages::wrong(rt, errors, why, i)),
     }
 }
 
-fn go(rt: &HostRuntime, w: Wish, is_closed: bool) -> u8 {
-    if w.stop == arguments::HELP {
-        return told(rt.stderr(), messages::help(rt.stdout()));
+// Cleans standard input to standard output.
+fn clean_standard(from: Stdin, to: Stdout, errors: Stderr) -> Result<(), Failure> {
+    if is_closed(&from) {
+        return Err(no_input(errors));
     }
-    if w.stop == arguments::VERSION {
-        return told(rt.stderr(), messages::version(rt.stdout()));
-    }
-    if w.stop != arguments::GO {
-        messages::wrong(rt, rt.stderr(), w);
-        return WRONG;
-    }
-    if w.page == 0 {
-        return with_given_page(rt, w, is_closed);
-    }
-    with_own_page(rt, w, is_closed)
+    let ways = Ways {
+        from: Input::Standard(from),
+        to: Output::Standard(to),
+        input: About::new(errors, b"standard input"),
+        output: About::new(errors, b"standard output"),
+    };
+    flow::clean(None, ways, &page_15::page(), Wish::default())
 }
 
 // Runs the command, and answers its exit status.
 pub fn run(rt: &HostRuntime) -> u8 {
-    let is_closed = is_closed(&rt.stdin());
-    if let Err(why) = fill_standard(rt) {
-        failed(rt.stderr(), b"/dev/null", &why);
-        return FAILED;
-    }
-    go(rt, arguments::read(rt), is_closed)
+    status(command(rt))
 }
 
 // The same without arguments, for a caller that has the standard streams alone: cleans standard input to standard output.
 pub fn run_standard(from: Stdin, to: Stdout, errors: Stderr) -> u8 {
-    if is_closed(&from) {
-        return no_input(errors);
-    }
-    let page = page_15::page();
-    let mut ways = Ways {
-        from: Input::Standard(from),
-        to: Output::Standard(to),
-        name: b"standard input",
-        out_name: b"standard output",
-        errors,
-    };
-    to_end(None, &mut ways, &page, arguments::none())
+    status(clean_standard(from, to, errors))
 }

@@ -8,27 +8,24 @@ use std::{fs, io};
 // The most bytes of an argument.
 const ROOM: usize = 4096;
 
-// What an argument is read into.
-pub fn room() -> [u8; 4096] {
-    [0u8; ROOM]
+// What an argument is read into: the command has no heap, and std fills what it is lent.
+pub fn room() -> [u8; ROOM] {
+    [0; ROOM]
 }
 
 // Argument i, which stands in the room; empty where there is none, or it is too long.
 pub fn argument<'a>(rt: &impl Env, i: usize, room: &'a mut [u8]) -> &'a [u8] {
-    match rt.arg(i, room) {
-        Ok(n) => &room[..n],
-        Err(_) => &room[..0],
-    }
+    let n = rt.arg(i, room).unwrap_or(0);
+    &room[..n]
 }
 
 fn text(name: &[u8]) -> io::Result<&str> {
-    match from_utf8(name) {
-        Ok(text) => Ok(text),
-        Err(_) => Err(io::Error::new(
+    from_utf8(name).map_err(|_| {
+        io::Error::new(
             ErrorKind::InvalidInput,
             "the name is no UTF-8: rename the file, or hand it over by < or >",
-        )),
-    }
+        )
+    })
 }
 
 // Opens a file for reading.

@@ -1,92 +1,76 @@
 // A page out of a file.
-use crate::messages::{failed, no_page};
+use crate::failure::Failure;
+use crate::messages::About;
 use crate::names;
-use command_bytes::numbers::Parsed;
-use command_bytes::{front, numbers};
-use std::fs::File;
-use std::io;
-use std::io::{Read, Stderr};
+use command_bytes::front::up_to;
+use command_bytes::numbers::{ParseError, numbers};
+use std::io::Read;
+use std::{fmt, io};
 
 // The numbers of the longest page that is accepted: 2 sizes, and twice the ranges, 2,048 of each kind.
 pub const NUMBERS: usize = 8194;
 
-// The most bytes of such a file.
+// The most bytes of such a file, and the room for it: a byte more is a file that is too long.
 const TEXT: usize = 65536;
 
-// How many numbers the page has, or that it is wrong, which was said.
-#[derive(Clone, Copy)]
-pub enum OwnPage {
-    Is(usize),
-    Wrong,
+const ROOM: usize = TEXT + 1;
+
+// Why a file has no page.
+#[derive(Clone, Copy, Debug, PartialEq, Eq, Hash)]
+pub enum NoPage {
+    TooLong,
+    NotNumbers(ParseError),
+    Refused,
 }
 
-// The page of a text.
-fn of_text(errors: Stderr, name: &[u8], text: &[u8], out: &mut [u32]) -> OwnPage {
-    match numbers::numbers(text, out) {
-        Parsed::NoNumber => {
-            no_page(errors, name, b"a word in it is no hexadecimal number");
-            OwnPage::Wrong
-        }
-        Parsed::Many => {
-            no_page(errors, name, b"it has too many numbers");
-            OwnPage::Wrong
-        }
-        Parsed::All(n) => {
-            if page::is_accepted(front::numbers(out, n)) {
-                return OwnPage::Is(n);
-            }
-            no_page(errors, name, b"its numbers are refused (2)");
-            OwnPage::Wrong
-        }
+impl From<ParseError> for NoPage {
+    fn from(why: ParseError) -> Self {
+        NoPage::NotNumbers(why)
     }
 }
 
-// Fills a buffer from a file, as far as the file goes, and answers how many bytes it has.
-fn fill(file: &mut File, text: &mut [u8]) -> io::Result<usize> {
-    let mut n = 0;
-    while n < text.len() {
-        let got = file.read(&mut text[n..])?;
-        if got == 0 {
-            break;
-        }
-        n += got;
+impl fmt::Display for NoPage {
+    fn fmt<W: fmt::Write>(&self, f: &mut fmt::Formatter<W>) -> fmt::Result {
+        f.write_str(match self {
+            NoPage::TooLong => "it has more than 65536 bytes",
+            NoPage::NotNumbers(ParseError::NoNumber) => "a word in it is no hexadecimal number",
+            NoPage::NotNumbers(ParseError::Many) => "it has too many numbers",
+            NoPage::Refused => "its numbers are refused (2)",
+        })
     }
-    Ok(n)
 }
 
-// The text of an open file, and whether more follows.
-fn text_of(file: &mut File, text: &mut [u8]) -> io::Result<(usize, bool)> {
-    let n = fill(file, text)?;
-    let mut more = [0u8; 1];
-    let got = file.read(&mut more)?;
-    Ok((n, 0 < got))
+// The bytes of a file, which stand in the room, as far as there is room.
+fn text_of<'a>(rt: &HostRuntime, name: &[u8], room: &'a mut [u8]) -> io::Result<&'a [u8]> {
+    let mut file = names::open(rt, name)?.take(room.len() as u64);
+    let n = io::copy(&mut file, &mut &mut *room)?;
+    Ok(up_to(room, n as usize))
 }
 
-// The page of an open file.
-fn of_file(errors: Stderr, name: &[u8], file: &mut File, out: &mut [u32]) -> OwnPage {
-    let mut text = [0u8; TEXT];
-    match text_of(file, &mut text) {
-        Err(why) => {
-            failed(errors, name, &why);
-            OwnPage::Wrong
-        }
-        Ok((_, true)) => {
-            no_page(errors, name, b"it has more than 65536 bytes");
-            OwnPage::Wrong
-        }
-        Ok((n, false)) => of_text(errors, name, front::bytes(&text, n), out),
+// The page of a text, which stands in the first places of out.
+fn page_of<'a>(text: &[u8], out: &'a mut [u32]) -> Result<&'a [u32], NoPage> {
+    if TEXT < text.len() {
+        return Err(NoPage::TooLong);
     }
+    let n = numbers(text, out)?;
+    let page = up_to(out, n);
+    if !page::is_accepted(page) {
+        return Err(NoPage::Refused);
+    }
+    Ok(page)
 }
 
 // The page of the file that argument i names.
-pub fn read(rt: &HostRuntime, i: usize, out: &mut [u32]) -> OwnPage {
+pub fn read<'a>(rt: &HostRuntime, i: usize, out: &'a mut [u32]) -> Result<&'a [u32], Failure> {
     let mut path = names::room();
     let name = names::argument(rt, i, &mut path);
-    match names::open(rt, name) {
+    let about = About::new(rt.stderr(), name);
+    let mut room = [0; ROOM];
+    match text_of(rt, name, &mut room) {
+        Ok(text) => page_of(text, out).map_err(|why| about.no_page(why)),
         Err(why) => {
-            failed(rt.stderr(), name, &why);
-            OwnPage::Wrong
+            about.failed(&why);
+            Err(Failure::Wrong)
         }
-        Ok(mut file) => of_file(rt.stderr(), name, &mut file, out),
     }
 }

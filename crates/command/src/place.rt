@@ -1,20 +1,20 @@
 // Where in the input something stands. A line ends with 0A.
 use command_bytes::counts::{newlines, since_newline};
-use command_bytes::front;
+use std::fmt;
 use text_clean::{CleanAnswer, Cleaner, Counts};
 use text_input::Options;
 
 // A sum of 64 bits: no run reaches its end.
 pub fn plus(a: u64, b: usize) -> u64 {
-    std::num::wrapping_add_u64(a, b as u64)
+    a.wrapping_add(b as u64)
 }
 
 fn minus(a: u64, b: usize) -> u64 {
-    std::num::wrapping_sub_u64(a, b as u64)
+    a.wrapping_sub(b as u64)
 }
 
 // How far the input is read.
-#[derive(Clone, Copy)]
+#[derive(Clone, Copy, Debug, Default, PartialEq, Eq, Hash)]
 pub struct Spot {
     // Bytes before.
     pub offset: u64,
@@ -22,51 +22,29 @@ pub struct Spot {
     pub newlines: u64,
     // Bytes of the same line before.
     pub column: u64,
-    // The last three bytes before, the last of them lowest.
-    pub last: u32,
+    // The last three bytes before.
+    pub last: [u8; 3],
 }
 
-// Three bytes with one more behind them, the first gone.
-fn shifted(last: u32, b: u8) -> u32 {
-    (last % 0x10000) * 0x100 + b as u32
-}
-
-// The last three bytes, where some come behind others.
-fn last_of(last: u32, bytes: &[u8]) -> u32 {
-    let n = bytes.len();
-    if n == 0 {
-        return last;
+// The last three bytes, where some come behind three others.
+fn last_of([a, b, c]: [u8; 3], bytes: &[u8]) -> [u8; 3] {
+    match bytes {
+        [] => [a, b, c],
+        [x] => [b, c, *x],
+        [x, y] => [c, *x, *y],
+        [.., x, y, z] => [*x, *y, *z],
     }
-    if n == 1 {
-        return shifted(last, bytes[0]);
-    }
-    let before = shifted(last, bytes[0]);
-    if n == 2 {
-        return shifted(before, bytes[1]);
-    }
-    shifted(
-        shifted(shifted(0, bytes[n - 3]), bytes[n - 2]),
-        bytes[n - 1],
-    )
 }
 
 impl Spot {
-    pub fn new() -> Self {
-        Spot {
-            offset: 0,
-            newlines: 0,
-            column: 0,
-            last: 0,
-        }
-    }
-
     // The spot behind some bytes that follow.
     pub fn after(self, bytes: &[u8]) -> Self {
         let n = newlines(bytes);
-        let mut column = plus(self.column, bytes.len());
-        if 0 < n {
-            column = since_newline(bytes) as u64;
-        }
+        let column = if n == 0 {
+            plus(self.column, bytes.len())
+        } else {
+            since_newline(bytes) as u64
+        };
         Spot {
             offset: plus(self.offset, bytes.len()),
             newlines: plus(self.newlines, n),
@@ -77,146 +55,139 @@ impl Spot {
 }
 
 // What a fault is.
-pub const NONE: u32 = 0;
-
-pub const NO_UTF_8: u32 = 1;
-
-pub const LOST: u32 = 2;
+#[derive(Clone, Copy, Debug, PartialEq, Eq, Hash)]
+pub enum Kind {
+    // Bytes that are no UTF-8: how many, and the last three up to the last of them.
+    NoUtf8 { count: usize, last: [u8; 3] },
+    // A line end inside an escape.
+    Lost,
+}
 
 // What `--strict` stops at.
-#[derive(Clone, Copy)]
+#[derive(Clone, Copy, Debug, PartialEq, Eq, Hash)]
 pub struct Fault {
-    pub kind: u32,
+    pub kind: Kind,
     // Its line, counted from 1.
     pub line: u64,
     // Its first byte, in its line counted from 1, and in the input counted from 0.
     pub byte: u64,
     pub offset: u64,
-    // How many bytes are no UTF-8, and the last three up to the last of them.
-    pub count: usize,
-    pub last: u32,
 }
 
 impl Fault {
-    pub fn none() -> Self {
-        Fault {
-            kind: NONE,
-            line: 0,
-            byte: 0,
-            offset: 0,
-            count: 0,
-            last: 0,
-        }
-    }
-
     // The last bytes before a spot are no UTF-8. None of them is 0A.
     pub fn no_utf_8(end: Spot, count: usize) -> Self {
+        let last = end.last;
         Fault {
-            kind: NO_UTF_8,
+            kind: Kind::NoUtf8 { count, last },
             line: plus(end.newlines, 1),
             byte: plus(minus(end.column, count), 1),
             offset: minus(end.offset, count),
-            count,
-            last: end.last,
         }
     }
 
     // A line end is lost in an escape.
     pub fn lost(at: Spot) -> Self {
         Fault {
-            kind: LOST,
+            kind: Kind::Lost,
             line: plus(at.newlines, 1),
             byte: plus(at.column, 1),
             offset: at.offset,
-            count: 0,
-            last: at.last,
         }
     }
 }
 
-// A block of the input, before it is cleaned: the record, and where it begins.
+impl fmt::Display for Fault {
+    fn fmt<W: fmt::Write>(&self, f: &mut fmt::Formatter<W>) -> fmt::Result {
+        let line = self.line;
+        let byte = self.byte;
+        match self.kind {
+            Kind::Lost => write!(
+                f,
+                "line {line}: a line end stands inside an escape sequence"
+            ),
+            Kind::NoUtf8 { count, last } => {
+                let [a, b, c] = last;
+                write!(f, "line {line}, byte {byte}: bytes that are no UTF-8 (")?;
+                match count {
+                    0 | 1 => write!(f, "{c:02X})"),
+                    2 => write!(f, "{b:02X} {c:02X})"),
+                    _ => write!(f, "{a:02X} {b:02X} {c:02X})"),
+                }
+            }
+        }
+    }
+}
+
+// The counts that a call of the cleaner answers, or the number by which it is refused.
+pub fn counted(answer: CleanAnswer) -> Result<Counts, u32> {
+    match answer {
+        CleanAnswer::Done(counts) => Ok(counts),
+        CleanAnswer::Refused(number) => Err(number),
+    }
+}
+
+// Whether the counts are those of a fault: bytes that are no UTF-8, and line ends lost, where these count too.
+pub fn has_fault(counts: Counts, lost_too: bool) -> bool {
+    0 < counts.replaced || (lost_too && 0 < counts.lost)
+}
+
+// Whether no character has the byte at its start, nor is one begun by it: it is replaced when it is read.
+fn is_lone(b: u8) -> bool {
+    matches!(b, 0x80..0xc2 | 0xf5..)
+}
+
+// A block of the input, before it is cleaned: what cleans it, and where it begins.
 #[derive(Clone, Copy)]
-pub struct Begun {
-    pub record: Cleaner,
+pub struct Begun<'a> {
+    pub cleaner: Cleaner,
+    pub page: &'a [u32],
     pub options: Options,
     pub lines: bool,
     pub spot: Spot,
 }
 
-// Whether the counts are those of a fault: bytes that are no UTF-8, and line ends lost, where these count too.
-pub fn has_fault(counts: Counts, lost_too: bool) -> bool {
-    (0 < counts.replaced) | (lost_too & (0 < counts.lost))
-}
-
-fn no_counts() -> Counts {
-    Counts {
-        written: 0,
-        read: 0,
-        replaced: 0,
-        dropped: 0,
-        lost: 0,
+impl Begun<'_> {
+    // Cleans the block's first bytes: the cleaner behind them, and their counts or the number of a refusal.
+    pub fn clean(self, bytes: &[u8], out: &mut [u8]) -> (Cleaner, Result<Counts, u32>) {
+        let done = self
+            .cleaner
+            .clean(self.page, self.options, self.lines, bytes, out);
+        (done.next, counted(done.answer))
     }
-}
 
-// The counts of the block's first bytes.
-fn counts(begun: Begun, page: &[u32], bytes: &[u8], out: &mut [u8]) -> Counts {
-    let record = begun.record;
-    let done = record.clean(page, begun.options, begun.lines, bytes, out);
-    let answer = done.answer;
-    match answer {
-        CleanAnswer::Done(counts) => counts,
-        CleanAnswer::Refused(_) => no_counts(),
+    // The fewest first bytes that have a fault, where all have one: found by halves, since the counts of more bytes are no smaller. Std
+    // searches slices by what is in a place, and here each place takes a clean of all before it.
+    fn least<'b>(self, lost_too: bool, bytes: &'b [u8], out: &mut [u8]) -> &'b [u8] {
+        let mut low = 0;
+        let mut high = bytes.len();
+        while 1 < high - low {
+            let middle = low + (high - low) / 2;
+            let (_, counts) = self.clean(&bytes[..middle], out);
+            if counts.is_ok_and(|counts| has_fault(counts, lost_too)) {
+                high = middle;
+            } else {
+                low = middle;
+            }
+        }
+        &bytes[..high]
     }
-}
 
-// How many of the first bytes have a fault and one fewer have none: found by halves, since the counts of more bytes are no smaller.
-// All bytes have a fault.
-fn least(begun: Begun, lost_too: bool, page: &[u32], bytes: &[u8], out: &mut [u8]) -> usize {
-    let mut low = 0;
-    let mut high = bytes.len();
-    while 1 < high - low {
-        let middle = low + (high - low) / 2;
-        if has_fault(
-            counts(begun, page, front::bytes(bytes, middle), out),
-            lost_too,
-        ) {
-            high = middle;
-        } else {
-            low = middle;
+    // The first fault of a block that has one. It uses the places of out.
+    pub fn first(self, lost_too: bool, bytes: &[u8], out: &mut [u8]) -> Fault {
+        let part = self.least(lost_too, bytes, out);
+        let (_, counts) = self.clean(part, out);
+        let replaced = counts.map_or(0, |counts| counts.replaced);
+        let [before @ .., last] = part else {
+            return Fault::lost(self.spot);
+        };
+        let end = self.spot.after(before);
+        // The bytes that are no UTF-8 end before the last one, or are that one.
+        match replaced {
+            0 => Fault::lost(end),
+            1 if is_lone(*last) => Fault::no_utf_8(self.spot.after(part), 1),
+            n if is_lone(*last) => Fault::no_utf_8(end, n - 1),
+            n => Fault::no_utf_8(end, n),
         }
     }
-    high
-}
-
-// Whether no character has the byte at its start, nor is one begun by it: it is replaced when it is read.
-fn is_lone(b: u8) -> bool {
-    (0x80 <= b) & ((b < 0xc2) | (0xf4 < b))
-}
-
-// The first fault of a block, by the least of its first bytes that have one. The bytes that are no UTF-8 end before the last of these,
-// or are that one.
-fn fault_in(counts: Counts, bytes: &[u8], spot: Spot) -> Fault {
-    let n = bytes.len();
-    if n == 0 {
-        return Fault::none();
-    }
-    let end = spot.after(&bytes[0..n - 1]);
-    if counts.replaced == 0 {
-        return Fault::lost(end);
-    }
-    if !is_lone(bytes[n - 1]) {
-        return Fault::no_utf_8(end, counts.replaced);
-    }
-    if 1 < counts.replaced {
-        return Fault::no_utf_8(end, counts.replaced - 1);
-    }
-    Fault::no_utf_8(spot.after(bytes), 1)
-}
-
-// The first fault of a block that has one. It uses the places of out.
-pub fn first(begun: Begun, lost_too: bool, page: &[u32], bytes: &[u8], out: &mut [u8]) -> Fault {
-    let n = least(begun, lost_too, page, bytes, out);
-    let part = front::bytes(bytes, n);
-    let counts = counts(begun, page, part, out);
-    fault_in(counts, part, begun.spot)
 }

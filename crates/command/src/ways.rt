@@ -1,6 +1,7 @@
 // Where the command reads and writes: a file that an argument names, or a standard stream.
+use crate::messages::About;
 use std::fs::File;
-use std::io::{Read, Seek, SeekFrom, Stderr, Stdin, Stdout, Write};
+use std::io::{Read, Seek, SeekFrom, Stdin, Stdout, Write};
 use std::os::unix::fs::FileTypeExt;
 use std::str::from_utf8;
 use std::{fs, io};
@@ -17,14 +18,13 @@ pub enum Output {
     Named(File),
 }
 
-// The input and the output, what messages call them, and where messages go.
+// The input and the output, and where what is said about each goes.
 #[derive(Drop)]
 pub struct Ways<'a> {
     pub from: Input,
     pub to: Output,
-    pub name: &'a [u8],
-    pub out_name: &'a [u8],
-    pub errors: Stderr,
+    pub input: About<'a>,
+    pub output: About<'a>,
 }
 
 impl Read for Input {
@@ -52,14 +52,19 @@ impl Write for Output {
     }
 }
 
-// Where in an open file the next read begins, and where it ends; none for one without places. It is set back to where it stood.
-fn places_of(file: &mut File) -> io::Result<Option<(u64, u64)>> {
+// How many bytes stand from one place of a file to another, where there are any.
+fn between(here: u64, end: u64) -> Option<u64> {
+    end.checked_sub(here).filter(|&n| 0 < n)
+}
+
+// How many bytes follow in an open file, which is set back to where it stood; none for one without places.
+fn size_of(file: &mut File) -> io::Result<Option<u64>> {
     let Ok(here) = file.stream_position() else {
         return Ok(None);
     };
     let end = file.seek(SeekFrom::End(0)).unwrap_or(0);
     file.seek(SeekFrom::Start(here))?;
-    Ok(Some((here, end)))
+    Ok(between(here, end))
 }
 
 // The number behind `pos:`, with which the system's words on an open file begin.
@@ -89,19 +94,17 @@ fn end_of_standard(rt: &HostRuntime) -> Option<u64> {
     disk.seek(SeekFrom::End(0)).ok()
 }
 
-fn places_of_standard(rt: &HostRuntime) -> Option<(u64, u64)> {
-    Some((place_of_standard(rt)?, end_of_standard(rt)?))
+fn size_of_standard(rt: &HostRuntime) -> Option<u64> {
+    between(place_of_standard(rt)?, end_of_standard(rt)?)
 }
 
 impl Input {
-    // The same for the input. That of a standard input is known only where there is a system to ask.
-    pub fn places(&mut self, system: Option<HostRuntime>) -> io::Result<Option<(u64, u64)>> {
+    // How many bytes follow, where that is known and there are any. That of a standard input is known only where there is a system to
+    // ask.
+    pub fn size(&mut self, system: Option<HostRuntime>) -> io::Result<Option<u64>> {
         match self {
-            Input::Named(file) => places_of(file),
-            Input::Standard(_) => match system {
-                Some(rt) => Ok(places_of_standard(&rt)),
-                None => Ok(None),
-            },
+            Input::Named(file) => size_of(file),
+            Input::Standard(_) => Ok(system.and_then(|rt| size_of_standard(&rt))),
         }
     }
 }

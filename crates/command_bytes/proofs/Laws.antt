@@ -15,7 +15,8 @@ use lib.ListN.{length}
 use Rattle.command_bytes.specs.Counts.{tally, is_newline, newlines, starts, since_newline}
 use Rattle.command_bytes.specs.Digits.{digit_of}
 use Rattle.command_bytes.specs.Words.{Read, read_in, read_from, begin_of, numbers_of}
-use Rattle.command_bytes.specs.declared.numbers.Parsed.TheVariants.{All, NoNumber, Many}
+use Rattle.std.specs.Prelude.{Ok, Err}
+use Rattle.command_bytes.specs.declared.numbers.ParseError.TheVariants.{NoNumber, Many}
 
 -- n bytes from b on
 abbrev from : ℕ → ℕ → List ℕ
@@ -56,23 +57,23 @@ unfoldable pub rows : List Row
 rows =
     -- P 0 1 0 377 and 0A: four numbers, and the places behind them as they were
     row (0x50 ∷ 0x20 ∷ 0x30 ∷ 0x20 ∷ 0x31 ∷ 0x20 ∷ 0x30 ∷ 0x20 ∷ 0x33 ∷ 0x37 ∷ 0x37 ∷ 0x0A ∷ []) (0xEE ∷ 0xEE ∷ 0xEE ∷ 0xEE ∷ 0xEE ∷ [])
-    (read_in (All 4) (0 ∷ 1 ∷ 0 ∷ 0x377 ∷ 0xEE ∷ []))
+    (read_in (Ok 4) (0 ∷ 1 ∷ 0 ∷ 0x377 ∷ 0xEE ∷ []))
     -- without P; small and capital digits; tab, 0D and 0A, one after the other, and at both ends
     ∷ row (0x09 ∷ 0x31 ∷ 0x66 ∷ 0x09 ∷ 0x31 ∷ 0x46 ∷ 0x0D ∷ 0x0A ∷ 0x41 ∷ 0x20 ∷ []) (0xEE ∷ 0xEE ∷ 0xEE ∷ [])
-    (read_in (All 3) (0x1F ∷ 0x1F ∷ 0xA ∷ []))
+    (read_in (Ok 3) (0x1F ∷ 0x1F ∷ 0xA ∷ []))
     -- no number at all
-    ∷ row [] (0xEE ∷ []) (read_in (All 0) (0xEE ∷ []))
-    ∷ row (0x50 ∷ 0x20 ∷ []) [] (read_in (All 0) [])
+    ∷ row [] (0xEE ∷ []) (read_in (Ok 0) (0xEE ∷ []))
+    ∷ row (0x50 ∷ 0x20 ∷ []) [] (read_in (Ok 0) [])
     -- FFFFFFFF is a number, zeros before it or not; 100000000 is none
-    ∷ row (0x30 ∷ 0x46 ∷ 0x46 ∷ 0x46 ∷ 0x46 ∷ 0x46 ∷ 0x46 ∷ 0x46 ∷ 0x46 ∷ []) (0xEE ∷ []) (read_in (All 1) (0xFFFFFFFF ∷ []))
-    ∷ row (0x31 ∷ 0x30 ∷ 0x30 ∷ 0x30 ∷ 0x30 ∷ 0x30 ∷ 0x30 ∷ 0x30 ∷ 0x30 ∷ []) (0xEE ∷ []) (read_in NoNumber (0x10000000 ∷ []))
+    ∷ row (0x30 ∷ 0x46 ∷ 0x46 ∷ 0x46 ∷ 0x46 ∷ 0x46 ∷ 0x46 ∷ 0x46 ∷ 0x46 ∷ []) (0xEE ∷ []) (read_in (Ok 1) (0xFFFFFFFF ∷ []))
+    ∷ row (0x31 ∷ 0x30 ∷ 0x30 ∷ 0x30 ∷ 0x30 ∷ 0x30 ∷ 0x30 ∷ 0x30 ∷ 0x30 ∷ []) (0xEE ∷ []) (read_in (Err NoNumber) (0x10000000 ∷ []))
     -- P alone, P before a digit, P behind a number, and a g
-    ∷ row (0x50 ∷ []) (0xEE ∷ []) (read_in NoNumber (0xEE ∷ []))
-    ∷ row (0x50 ∷ 0x31 ∷ []) (0xEE ∷ []) (read_in NoNumber (0xEE ∷ []))
-    ∷ row (0x31 ∷ 0x20 ∷ 0x50 ∷ 0x20 ∷ []) (0xEE ∷ []) (read_in NoNumber (1 ∷ []))
-    ∷ row (0x31 ∷ 0x67 ∷ []) (0xEE ∷ []) (read_in NoNumber (1 ∷ []))
+    ∷ row (0x50 ∷ []) (0xEE ∷ []) (read_in (Err NoNumber) (0xEE ∷ []))
+    ∷ row (0x50 ∷ 0x31 ∷ []) (0xEE ∷ []) (read_in (Err NoNumber) (0xEE ∷ []))
+    ∷ row (0x31 ∷ 0x20 ∷ 0x50 ∷ 0x20 ∷ []) (0xEE ∷ []) (read_in (Err NoNumber) (1 ∷ []))
+    ∷ row (0x31 ∷ 0x67 ∷ []) (0xEE ∷ []) (read_in (Err NoNumber) (1 ∷ []))
     -- two numbers, and one place
-    ∷ row (0x31 ∷ 0x20 ∷ 0x32 ∷ []) (0xEE ∷ []) (read_in Many (1 ∷ []))
+    ∷ row (0x31 ∷ 0x20 ∷ 0x32 ∷ []) (0xEE ∷ []) (read_in (Err Many) (1 ∷ []))
     ∷ []
 
 pub numbers_rows : map (λ (r : Row). numbers_of r.bytes r.places) rows ≡ map (λ (r : Row). r.expected) rows

@@ -1,22 +1,9 @@
-// The front of a buffer: what is in use of it. A count above the buffer's length counts as that.
+// The front of a buffer: what is in use of it.
 ghost use Rattle.std.specs.Prelude.{◌≡◌, take};
 
-// The first n bytes; all, where there are fewer.
-pub fn bytes(all: &[u8], n: usize) -> &[u8]
+// The first n; all, where there are fewer.
+pub fn up_to<T>(all: &[T], n: usize) -> &[T]
     ensures { result.now ≡ take n all.now }
 {
-    if n < all.len() {
-        return &all[0..n];
-    }
-    all
-}
-
-// The first n numbers; all, where there are fewer.
-pub fn numbers(all: &[u32], n: usize) -> &[u32]
-    ensures { result.now ≡ take n all.now }
-{
-    if n < all.len() {
-        return &all[0..n];
-    }
-    all
+    &all[..n.min(all.len())]
 }
