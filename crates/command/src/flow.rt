@@ -2,11 +2,12 @@
 use crate::arguments::Wish;
 use crate::failure::Failure;
 use crate::messages;
-use crate::place::{Begun, Fault, Spot, counted, has_fault, plus};
+use crate::place::{Begun, Fault, Spot, has_fault, plus};
 use crate::progress::Progress;
 use crate::ways::Ways;
 use command_bytes::counts::starts;
 use command_bytes::front::up_to;
+use common::Refusal;
 use std::io::{Read, Write};
 use text_clean::{Cleaner, Counts};
 
@@ -76,9 +77,9 @@ impl<'a> Flow<'a> {
         }
     }
 
-    fn refused(&self, number: u32) -> Failure {
+    fn refused(&self, why: Refusal) -> Failure {
         self.end_line();
-        self.ways.input.refused(number)
+        self.ways.input.refused(why)
     }
 
     // `--strict` stops at a fault.
@@ -113,7 +114,7 @@ impl<'a> Flow<'a> {
             spot: self.spot,
         };
         let (next, counts) = begun.clean(bytes, out);
-        let counts = counts.map_err(|number| self.refused(number))?;
+        let counts = counts.map_err(|why| self.refused(why))?;
         self.cleaner = next;
         if self.wish.strict && has_fault(counts, true) {
             return Err(self.stopped(begun.first(true, bytes, out)));
@@ -133,7 +134,7 @@ impl<'a> Flow<'a> {
         let done = self
             .cleaner
             .finish(self.page, self.wish.options(), true, out);
-        let counts = counted(done.answer).map_err(|number| self.refused(number))?;
+        let counts = done.answer.map_err(|why| self.refused(why))?;
         if 0 < counts.replaced {
             let fault = Fault::no_utf_8(self.spot, counts.replaced);
             if self.wish.strict {
@@ -165,7 +166,7 @@ impl<'a> Flow<'a> {
         }
     }
 
-    // Reads to the end. A proved loop has to end, and nothing says that the input does: so the turns are counted, up to a number that no
+    // Reads to the end. A proved loop has to end, and nothing says that the input does: so the turns are up to a number that no
     // run reaches.
     fn all(&mut self) -> Result<(), Failure> {
         let mut block = [0; BLOCK];

@@ -5,6 +5,7 @@ use crate::flow::Sums;
 use crate::names;
 use crate::own_page::NoPage;
 use crate::place::{Fault, Kind};
+use common::Refusal;
 use std::env::Env;
 use std::fmt::{Display, InlineText};
 use std::io::{ErrorKind, Stderr, Stdout};
@@ -78,7 +79,8 @@ impl<'a> About<'a> {
     }
 
     // The cleaner refuses a call. Pages are accepted and there is room for every block, so it refuses none.
-    pub fn refused(self, number: u32) -> Failure {
+    pub fn refused(self, why: Refusal) -> Failure {
+        let number = why.number();
         self.tell(format_args!("refused ({number})"));
         Failure::Failed
     }

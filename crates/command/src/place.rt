@@ -1,7 +1,8 @@
 // Where in the input something stands. A line ends with 0A.
 use command_bytes::counts::{newlines, since_newline};
+use common::Refusal;
 use std::fmt;
-use text_clean::{CleanAnswer, Cleaner, Counts};
+use text_clean::{Cleaner, Counts};
 use text_input::Options;
 
 // A sum of 64 bits: no run reaches its end.
@@ -67,7 +68,7 @@ pub enum Kind {
 #[derive(Clone, Copy, Debug, PartialEq, Eq, Hash)]
 pub struct Fault {
     pub kind: Kind,
-    // Its line, counted from 1.
+    // Its line from 1.
     pub line: u64,
     // Its first byte, in its line counted from 1, and in the input counted from 0.
     pub byte: u64,
@@ -119,14 +120,6 @@ impl fmt::Display for Fault {
     }
 }
 
-// The counts that a call of the cleaner answers, or the number by which it is refused.
-pub fn counted(answer: CleanAnswer) -> Result<Counts, u32> {
-    match answer {
-        CleanAnswer::Done(counts) => Ok(counts),
-        CleanAnswer::Refused(number) => Err(number),
-    }
-}
-
 // Whether the counts are those of a fault: bytes that are no UTF-8, and line ends lost, where these count too.
 pub fn has_fault(counts: Counts, lost_too: bool) -> bool {
     0 < counts.replaced || (lost_too && 0 < counts.lost)
@@ -148,12 +141,12 @@ pub struct Begun<'a> {
 }
 
 impl Begun<'_> {
-    // Cleans the block's first bytes: the cleaner behind them, and their counts or the number of a refusal.
-    pub fn clean(self, bytes: &[u8], out: &mut [u8]) -> (Cleaner, Result<Counts, u32>) {
+    // Cleans the block's first bytes: the cleaner behind them, and their counts or why they are refused.
+    pub fn clean(self, bytes: &[u8], out: &mut [u8]) -> (Cleaner, Result<Counts, Refusal>) {
         let done = self
             .cleaner
             .clean(self.page, self.options, self.lines, bytes, out);
-        (done.next, counted(done.answer))
+        (done.next, done.answer)
     }
 
     // The fewest first bytes that have a fault, where all have one: found by halves, since the counts of more bytes are no smaller. Std
