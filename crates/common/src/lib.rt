@@ -1,8 +1,6 @@
-// What all crates share and none owns: the refusals by name, the answer of a call that writes lent places, and the lesser of two.
+// What all crates share and none owns: the refusals by name, and the answer of a call that writes lent places.
 // The definitions write the refusals' numbers, as the documents list them, and the code these names.
 #![tactic(auto)]
-
-ghost use Rattle.std.specs.Prelude.{◌≤◌};
 
 // A value in D800..DFFF or above 10FFFF.
 pub const NOT_A_CHAR: u32 = 1;
@@ -54,11 +52,4 @@ pub const UNPAIRED_SURROGATE: u32 = 15;
 pub enum Answer {
     Written(usize),
     Refused(u32),
-}
-
-// The lesser of the two; the contract says no more than is asked. Inner; total.
-pub fn lesser(a: usize, b: usize) -> usize
-    ensures { (result ≤ a) × (result ≤ b) }
-{
-    if a < b { a } else { b }
 }
