@@ -3,7 +3,7 @@
 -- range that does not end before c, and `found_at` says what that is worth.
 --     Between           where a search stands
 --     begun             it begins with all ranges
---     right             it goes on past the range at mid, which ends before c
+--     right, left       it goes on with one half: past the range at mid, which ends before c, or up to it
 --     met, past_all     what is found where lo and hi have met: a range, or that each ends before c
 use mathlib.Core.Path.{◌≡◌}
 use mathlib.Core.Bool.{true}
@@ -50,6 +50,18 @@ module _ (firsts lasts : List ℕ) (c n : ℕ) where
           within = b.within;
           past = λ i k. omega (arith, (both_rise 0 firsts lasts b.rising i mid (omega arith) (omega (arith, b.within, b.all_firsts))).1);
           not_past = b.not_past;
+        }
+
+    pub left : (mid : ℕ) → lo ≤ mid → mid < hi → c ≤ get_or lasts mid 0 → Between lo mid
+    left mid l h e =
+        record {
+          rising = b.rising;
+          all_firsts = b.all_firsts;
+          all_lasts = b.all_lasts;
+          order = l;
+          within = omega (arith, b.within);
+          past = b.past;
+          not_past = λ k. e;
         }
 
     pub met : hi ≤ lo → lo < n → Found firsts lasts c (record { first = get_or firsts lo 0; last = get_or lasts lo 0 })
