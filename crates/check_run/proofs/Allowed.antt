@@ -2,10 +2,8 @@
 -- the check accepts and none of which is ESC.
 --     Going        at the head of the loop
 --     stretched    a stretch more
---     stepped      a character more
-use Rattle.std.proofs.Common.{◌≡◌, ℕ, ◌+◌, ◌≤◌, ◌<◌, Bool, true, false, not, List, length, get_or, eqb, sym, ◌∙◌, arith}
-use borrow.Author.Tests.{eqb-true, eq-eqb, ne_eqb, not-false}
-use borrow.Author.Count.{below_more}
+use Rattle.std.proofs.Common.{◌≡◌, ℕ, ◌+◌, ◌≤◌, ◌<◌, Bool, true, List, length, get_or, eqb, sym, ◌∙◌, arith}
+use borrow.Author.Tests.{eqb-true, eq-eqb, ne_eqb}
 use Rattle.common.proofs.Kit.{by, by_lt, never, both}
 use Rattle.ranges.specs.declared.Range.{Range}
 use Rattle.check_char.proofs.Clean.{accepted_newline}
@@ -35,8 +33,3 @@ module _ (cs : List ℕ) (gap : Range) (i : ℕ) (g : Going cs gap i) where
       each x l =
           by_lt x i (λ h. g.each x h)
           (λ h. by_lt x (i + 1) (λ k. let same : x ≡ i = omega arith in sought_allowed gap g.plain _ (rw same (sym e ∙ t))) (λ k. sought_allowed gap g.plain _ (s.each x k l)))
-
-  -- one character more
-  pub stepped : i < length cs → (b : Bool) → not b ≡ false → b ≡ allowed (get_or cs i 0) → (next : Range) → Gap next → Going cs next (i + 1)
-  stepped l b t e next n =
-      record { low = omega arith; each = below_more (λ x. allowed (get_or cs x 0) ≡ true) i g.each (sym e ∙ not-false b t); plain = n }

@@ -1,5 +1,5 @@
 -- A run of ASCII bytes is as many characters.
---     to_here, to_more, to_both    the place that a search comes to: none passed, some passed behind it, two searches
+--     to_more                      the place that a search comes to, and some behind it
 --     over                         the loops of `valid_prefix` and `decode_utf8`, after a character and a run behind it
 use Prim.Native.Nat.{ℕ, zero, suc, ◌+◌, ◌-◌, ◌≤◌, ◌<◌}
 use mathlib.Core.Path.{◌≡◌, refl, sym, ◌∙◌}
@@ -14,18 +14,12 @@ use Rattle.scalars.specs.Utf8.{utf8_step_of}
 use Rattle.scalars.specs.Inner.{Ascii, AsciiTo}
 use Rattle.scalars.proofs.Steps.{lead_step}
 use Rattle.scalars.proofs.Texts.{Decoding, decoding_again}
-use Rattle.common.proofs.Places.{none, joined}
+use Rattle.common.proofs.Places.{joined}
 use Rattle.std.specs.Prelude.{Some}
 
 module _ (bs : List ℕ) (f : ℕ) where
-  pub to_here : (stop : ℕ) → f ≤ stop → AsciiTo bs f stop f
-  to_here stop l = record { begun = omega arith; low = l; each = none (λ x. get_or bs x 0 < 0x80) f f (omega arith) }
-
   pub to_more : (stop m t : ℕ) → AsciiTo bs f stop m → m ≤ t → t ≤ stop → Ascii bs m t → AsciiTo bs f stop t
   to_more stop m t a o l h = record { begun = omega (arith, a.begun); low = l; each = joined (λ x. get_or bs x 0 < 0x80) f m t a.each h }
-
-  pub to_both : (stop m t : ℕ) → AsciiTo bs f stop m → AsciiTo bs m stop t → AsciiTo bs f stop t
-  to_both stop m t a b = to_more stop m t a b.begun b.low b.each
 
 module _ (bs out₀ : List ℕ) where
   ascii_step : (at : ℕ) → at < length bs → get_or bs at 0 < 0x80 → utf8_step_of bs at ≡ Some ((get_or bs at 0), (at + 1))

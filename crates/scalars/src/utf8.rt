@@ -104,7 +104,8 @@ fn ascii_block(block: &[u8]) -> bool
     block.iter().fold(true, |good, &b| good & (b < 0x80))
 }
 
-// A place up to which all bytes from `from` on are below 80, and not past `stop`: by blocks of one size.
+// A place up to which all bytes from `from` on are below 80, and not past `stop`: by blocks of one size. A chain that counts the blocks
+// would take 14 % longer where each word of a text is in Cyrillic.
 fn ascii_blocks(bytes: &[u8], from: usize, stop: usize, size: usize) -> usize
     requires from_le_stop { (from ≤ stop) × (stop ≤ length bytes.now) }
     requires size_nonzero { 0 < size }
@@ -120,7 +121,7 @@ fn ascii_blocks(bytes: &[u8], from: usize, stop: usize, size: usize) -> usize
     end
 }
 
-// The same by blocks of 64, of 16, and one by one. Each size is a number here, by which the loop of `ascii_block` is unrolled.
+// The same by blocks of 64, of 16, and one by one. Each size is a number here, by which the fold of `ascii_block` is unrolled.
 fn ascii_end(bytes: &[u8], from: usize, stop: usize) -> usize
     requires { (from ≤ stop) × (stop ≤ length bytes.now) }
     ensures { AsciiTo bytes.now from stop result }
@@ -131,7 +132,8 @@ fn ascii_end(bytes: &[u8], from: usize, stop: usize) -> usize
 }
 
 // The longest valid prefix. Total. The ASCII after an ASCII character is stepped over at once. The loop ends where the step
-// finds no character: "let .. else takes character and next place, or ends the prefix."
+// finds no character: "let .. else takes character and next place, or ends the prefix." It stays a `loop`: a turn takes as many bytes as the
+// step answers.
 pub fn valid_prefix(bytes: &[u8]) -> Prefix
     ensures { result ≡ counts_of (chars_of bytes.now) }
 {
@@ -165,7 +167,7 @@ fn decode_ascii(bytes: &[u8], from: usize, out: &mut [u32], at: usize) -> usize
 }
 
 // The characters of the longest valid prefix into out, as many as it has places for. Total: the places after them stay as
-// they were. The ASCII after an ASCII character is stored at once.
+// they were. The ASCII after an ASCII character is stored at once. The loop stays a `while`, since a turn takes as many as its step answers.
 pub fn decode_utf8(bytes: &[u8], out: &mut [u32]) -> Prefix
     ensures counts { result ≡ counts_of (decode_of bytes.now out.old) }
     ensures places { out.new ≡ decode_places bytes.now out.old }

@@ -2,7 +2,6 @@
 --     none_in_gap          the empty range, as a gap, has no character
 --     ascii_within         ASCII alone, in ASCII and a gap
 --     first_within         the first of two ranges, in both
---     nothing              an empty stretch
 --     one_more             a stretch and places behind it
 --     counted              as many as are sought of the next
 --     four                 four stretches one behind the other, the second of what is likeliest
@@ -23,7 +22,7 @@ use Rattle.ranges.proofs.Found.{empty}
 use Rattle.stretch.specs.declared.Sought.{Sought}
 use Rattle.stretch.specs.Stretch.{in_gap, in_sought, either_of, Each, Stretch}
 use Rattle.stretch.specs.Plain.{ascii_or}
-use Rattle.common.proofs.Places.{none, joined}
+use Rattle.common.proofs.Places.{joined}
 
 -- all that q seeks, r seeks
 abbrev Within : Sought → Sought → Type 0
@@ -51,9 +50,6 @@ pub first_within : (one two : Range) → Within (either_of one no_range) (either
 first_within one two c h = other_middle (in_range one c) _ _ _ (empty c) h
 
 module _ (q : Sought) (s : List ℕ) where
-  pub nothing : (f : ℕ) → f ≤ length s → Stretch q s f f
-  nothing f l = record { on = omega arith; low = l; each = none _ _ f (omega arith) }
-
   behind : (f m t : ℕ) → Stretch q s f m → Stretch q s m t → Stretch q s f t
   behind f m t a b =
       record {

@@ -1,8 +1,7 @@
 -- Stretches: of units without surrogates, found by their bytes; of characters that have one unit.
---     to_here        no unit
 --     to_more        a block more
 --     plain_list     such units give themselves, and then what the others give
---     short_here, short_more, short_list   the same of characters of one unit
+--     short_more, short_list   the same of characters of one unit
 use Prim.Native.Nat.{ℕ, zero, suc, ◌+◌, ◌*◌, ◌/◌, ◌≤◌, ◌<◌}
 use mathlib.Core.Path.{◌≡◌, refl, ap, ◌∙◌}
 use mathlib.Core.Bool.{true, false, ◌&&◌, ◌||◌}
@@ -12,7 +11,7 @@ use borrow.Author.Tests.{le-leb, lt-leb}
 use lib.Dec.{leb}
 use lib.ListN.{length, get_or, take, drop}
 use Rattle.common.proofs.Kit.{never, by_lt}
-use Rattle.common.proofs.Places.{none, joined}
+use Rattle.common.proofs.Places.{joined}
 use Rattle.utf16.specs.declared.ByteOrder.{ByteOrder}
 use Rattle.utf16.specs.declared.ByteOrder.TheVariants.{Little, Big}
 use Rattle.utf16.specs.Utf16.{first_byte, second_byte, serialised, utf16_of}
@@ -41,9 +40,6 @@ plain_unit Little a b h g p q =
     rw e (surrogate_range (b * 256 + a) ∙ outside b a h q)
 
 -- ---- by places
-pub to_here : (bs : List ℕ) (f : ℕ) → f ≤ length bs / 2 → PlainTo bs f f
-to_here bs f h = record { begun = omega arith; inside = h; each = λ o x l k. absurd (omega arith) }
-
 pub to_more : (bs : List ℕ) (f i m : ℕ) → Bytes bs → PlainTo bs f i → i + m ≤ length bs / 2 → PlainBytes bs (2 * i) (2 * i + 2 * m) → PlainTo bs f (i + m)
 to_more bs f i m k t h p =
     record {
@@ -69,9 +65,6 @@ plain_list (suc m) (u ∷ us) h p =
     (ap (λ (l : List ℕ). u ∷ l) (plain_list m us (omega arith) (λ x l. p (suc x) (omega arith))))
 
 -- ---- characters of one unit
-pub short_here : (cs : List ℕ) (f : ℕ) → f ≤ length cs → OneUnitTo cs f f
-short_here cs f h = record { begun = omega arith; inside = h; each = none (λ x. get_or cs x 0 < 0x10000) f f (omega arith) }
-
 pub short_more : (cs : List ℕ) (f i m : ℕ) → OneUnitTo cs f i → i + m ≤ length cs → OneUnit cs i (i + m) → OneUnitTo cs f (i + m)
 short_more cs f i m t h p =
     record { begun = omega (arith, t.begun); inside = h; each = joined (λ x. get_or cs x 0 < 0x10000) f i (i + m) t.each p }

@@ -1,5 +1,4 @@
 -- At the head of the loop what is left of the run, stored from the place at hand on, leads to the places that the whole leads to.
-use Rattle.std.proofs.Common.{◌≡◌}
 use Rattle.common.proofs.Storing.{Storing}
 use Rattle.scalars.proofs.utf8.decode_ascii.Given as goal
 
