@@ -10,19 +10,22 @@ mod session;
 use input::{Input, Line};
 use replay_words::answers::Answers;
 use session::Session;
+use std::alloc::AllocError;
 
 // A proved loop has to end, and nothing says that the input does: so the lines are counted, up to a number that no run reaches.
-fn main() {
+fn main(rt: HostRuntime) -> Result<(), AllocError> {
+    let alloc = rt.alloc();
     let mut input = Input::new();
     let mut line = Line::new();
-    let mut session = Session::new();
+    let mut session = Session::new(alloc)?;
     let mut answers = Answers::new();
     for _ in 0..u64::MAX {
         let more = input.read_line(&mut line);
-        session.answer(&line, &mut answers);
+        session.answer(alloc, &line, &mut answers);
         if !more {
             break;
         }
     }
     answers.flush();
+    Ok(())
 }

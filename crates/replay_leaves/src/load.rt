@@ -1,22 +1,20 @@
 // The operations on the generator of awkward text: `G fill` and `G back`.
-use replay_words::PLACES;
 use replay_words::answers::Answers;
 use replay_words::listed::List;
 use replay_words::places::{Place, room};
 use replay_words::why::Why;
 use replay_words::words::Words;
+use std::alloc::Global;
 
 // `G fill SEED N`: the state handed back, and every place.
-pub fn fill(words: Words, out: &mut Answers) -> Result<(), Why> {
-    let mut given = [0; 3];
-    let [seed, count] = words.numbers(&mut given)? else {
+pub fn fill(alloc: Global, words: Words, out: &mut Answers) -> Result<(), Why> {
+    let given = words.numbers(alloc, 3)?;
+    let [seed, count] = given.as_slice() else {
         return Err(Why::Number);
     };
-    let mut lent = [0; PLACES];
-    let places = &mut lent[..room(*count)?];
-    places.fill(u32::BLANK);
-    let state = generator::fill(*seed, places);
-    let list = List(places);
+    let mut places = vec![in alloc; u32::BLANK; room(*count)?]?;
+    let state = generator::fill(*seed, &mut places);
+    let list = List(&places);
     out.line(format_args!("ok state={state:x} out={list}"));
     Ok(())
 }

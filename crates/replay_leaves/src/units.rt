@@ -6,7 +6,8 @@ use replay_words::places::{Place, room};
 use replay_words::stored::{Refused, Stored};
 use replay_words::why::Why;
 use replay_words::words::Words;
-use replay_words::{NUMBERS, PLACES, words};
+use replay_words::{NUMBERS, words};
+use std::alloc::Global;
 use std::fmt;
 use std::fmt::Display;
 use utf16::{ByteOrder, Decoded};
@@ -48,34 +49,34 @@ fn byte_order(words: &mut Words) -> Result<ByteOrder, Why> {
 }
 
 // `U16 dec le|be ROOM b b ..`, with the room in characters.
-pub fn decode(mut words: Words, out: &mut Answers) -> Result<(), Why> {
+pub fn decode(alloc: Global, mut words: Words, out: &mut Answers) -> Result<(), Why> {
     let order = byte_order(&mut words)?;
-    let mut given = [0; NUMBERS];
-    let [size, numbers @ ..] = words.numbers(&mut given)? else {
+    let given = words.numbers(alloc, NUMBERS)?;
+    let [size, numbers @ ..] = given.as_slice() else {
         return Err(Why::Number);
     };
-    let room = room(*size)?;
-    let mut bytes = [0; NUMBERS];
-    let bytes = words::bytes(numbers, &mut bytes)?;
-    let mut lent = [0; PLACES];
-    let places = &mut lent[..room];
-    places.fill(u32::BLANK);
-    let outcome = read(utf16::decode_utf16(order, bytes, places));
-    out.line(Stored { places, outcome });
+    let mut places = vec![in alloc; u32::BLANK; room(*size)?]?;
+    let bytes = words::bytes(alloc, numbers)?;
+    let outcome = read(utf16::decode_utf16(order, &bytes, &mut places));
+    out.line(Stored {
+        places: &places,
+        outcome,
+    });
     Ok(())
 }
 
 // `U16 enc le|be ROOM c c ..`, with the room in bytes.
-pub fn encode(mut words: Words, out: &mut Answers) -> Result<(), Why> {
+pub fn encode(alloc: Global, mut words: Words, out: &mut Answers) -> Result<(), Why> {
     let order = byte_order(&mut words)?;
-    let mut given = [0; NUMBERS];
-    let [size, chars @ ..] = words.numbers(&mut given)? else {
+    let given = words.numbers(alloc, NUMBERS)?;
+    let [size, chars @ ..] = given.as_slice() else {
         return Err(Why::Number);
     };
-    let mut lent = [0; PLACES];
-    let places = &mut lent[..room(*size)?];
-    places.fill(u8::BLANK);
-    let outcome = stored(utf16::encode_utf16(order, chars, places));
-    out.line(Stored { places, outcome });
+    let mut places = vec![in alloc; u8::BLANK; room(*size)?]?;
+    let outcome = stored(utf16::encode_utf16(order, chars, &mut places));
+    out.line(Stored {
+        places: &places,
+        outcome,
+    });
     Ok(())
 }

@@ -5,23 +5,22 @@ use replay_words::places::room;
 use replay_words::stored::Refused;
 use replay_words::why::Why;
 use replay_words::words::Words;
-use replay_words::{NUMBERS, PLACES, words};
+use replay_words::{NUMBERS, words};
+use std::alloc::Global;
 use text_input_fill::Filled;
 
 // `F LEN PATTERN c c ..`: what filling answers, and the whole buffer as it is then.
-pub fn fill(mut words: Words, out: &mut Answers) -> Result<(), Why> {
+pub fn fill(alloc: Global, mut words: Words, out: &mut Answers) -> Result<(), Why> {
     let len = room(words.number()?)?;
-    let mut lent = [0; PLACES];
-    let buffer = &mut lent[..len];
-    words::fill(words.next().ok_or(Why::Pattern)?, buffer)?;
-    let mut given = [0; NUMBERS];
-    let queue = words.numbers(&mut given)?;
+    let mut buffer = vec![in alloc; 0; len]?;
+    words::fill(words.next().ok_or(Why::Pattern)?, &mut buffer)?;
+    let queue = words.numbers(alloc, NUMBERS)?;
     // LEN is one of the numbers that a line can have.
     if queue.len() == NUMBERS {
         return Err(Why::Many);
     }
-    let found = text_input_fill::fill(queue, buffer);
-    let bytes = Pairs(buffer);
+    let found = text_input_fill::fill(&queue, &mut buffer);
+    let bytes = Pairs(&buffer);
     match found {
         Filled::Counts(taken, n) => {
             out.line(format_args!("ok taken={taken:x} n={n:x} bytes={bytes}"));

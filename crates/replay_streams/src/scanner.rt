@@ -6,7 +6,8 @@ use replay_words::places::{Place, room};
 use replay_words::stored::{Refused, Stored};
 use replay_words::why::Why;
 use replay_words::words::Words;
-use replay_words::{NUMBERS, PLACES};
+use replay_words::NUMBERS;
+use std::alloc::Global;
 use std::fmt;
 use std::fmt::Display;
 use text_input::{Options, Scanned, TextInput};
@@ -66,14 +67,20 @@ impl Scanner {
     }
 
     // Answers a line that begins with S, by the words after it.
-    pub fn operate(&mut self, mut words: Words, page: &[u32], out: &mut Answers) -> Result<(), Why> {
+    pub fn operate(
+        &mut self,
+        alloc: Global,
+        mut words: Words,
+        page: &[u32],
+        out: &mut Answers,
+    ) -> Result<(), Why> {
         match words.next() {
             Some(b"new") => self.renew(words, out),
             Some(b"count") => self.count(words, out),
-            Some(b"ask") => self.ask(words, page, out),
-            Some(b"scan") => self.take(words, page, out, TextInput::scan),
-            Some(b"commit") => self.take(words, page, out, commit),
-            Some(b"fin") => self.finish(words, out),
+            Some(b"ask") => self.ask(alloc, words, page, out),
+            Some(b"scan") => self.take(alloc, words, page, out, TextInput::scan),
+            Some(b"commit") => self.take(alloc, words, page, out, commit),
+            Some(b"fin") => self.finish(alloc, words, out),
             _ => Err(Why::Word),
         }
     }
@@ -96,9 +103,15 @@ impl Scanner {
     }
 
     // `S ask OPT c c ..`, which leaves the record.
-    fn ask(&self, words: Words, page: &[u32], out: &mut Answers) -> Result<(), Why> {
-        let mut given = [0; NUMBERS];
-        let [options, chunk @ ..] = words.numbers(&mut given)? else {
+    fn ask(
+        &self,
+        alloc: Global,
+        words: Words,
+        page: &[u32],
+        out: &mut Answers,
+    ) -> Result<(), Why> {
+        let given = words.numbers(alloc, NUMBERS)?;
+        let [options, chunk @ ..] = given.as_slice() else {
             return Err(Why::Number);
         };
         let price = ask(self.record, page, options_of(*options)?, chunk);
@@ -111,36 +124,39 @@ impl Scanner {
     }
 
     // `S scan OPT ROOM c c ..` and `S commit OPT ROOM c c ..`
-    fn take<F>(&mut self, words: Words, page: &[u32], out: &mut Answers, call: F) -> Result<(), Why>
+    fn take<F>(
+        &mut self,
+        alloc: Global,
+        words: Words,
+        page: &[u32],
+        out: &mut Answers,
+        call: F,
+    ) -> Result<(), Why>
     where
         F: FnOnce(TextInput, &[u32], Options, &[u32], &mut [u32]) -> Scanned,
         requires { F.IsAlwaysCallable call }
     {
-        let mut given = [0; NUMBERS];
-        let [options, size, chunk @ ..] = words.numbers(&mut given)? else {
+        let given = words.numbers(alloc, NUMBERS)?;
+        let [options, size, chunk @ ..] = given.as_slice() else {
             return Err(Why::Number);
         };
         let options = options_of(*options)?;
-        let mut lent = [0; PLACES];
-        let places = &mut lent[..room(*size)?];
-        places.fill(u32::BLANK);
-        let scanned = call(self.record, page, options, chunk, places);
-        self.came(scanned, places, out);
+        let mut places = vec![in alloc; u32::BLANK; room(*size)?]?;
+        let scanned = call(self.record, page, options, chunk, &mut places);
+        self.came(scanned, &places, out);
         Ok(())
     }
 
     // `S fin p ROOM` and `S fin e ROOM`
-    fn finish(&mut self, mut words: Words, out: &mut Answers) -> Result<(), Why> {
+    fn finish(&mut self, alloc: Global, mut words: Words, out: &mut Answers) -> Result<(), Why> {
         let eof = match words.next() {
             Some(b"p") => false,
             Some(b"e") => true,
             _ => return Err(Why::Word),
         };
-        let mut lent = [0; PLACES];
-        let places = &mut lent[..room(words.one_number()?)?];
-        places.fill(u32::BLANK);
-        let scanned = self.record.finish(eof, places);
-        self.came(scanned, places, out);
+        let mut places = vec![in alloc; u32::BLANK; room(words.one_number()?)?]?;
+        let scanned = self.record.finish(eof, &mut places);
+        self.came(scanned, &places, out);
         Ok(())
     }
 

@@ -1,9 +1,9 @@
 // The words and the numbers of a line.
-ghost use Rattle.std.specs.Prelude.{◌<◌, ◌≤◌, ◌+◌, IfSome, IfOk, length, option_map, unwrap_or};
+ghost use Rattle.std.specs.Prelude.{◌<◌, ◌+◌, IfSome, length, option_map, unwrap_or};
 ghost use Rattle.std.specs.Iterator.{at_most};
 
-use crate::places::front;
 use crate::why::Why;
+use std::alloc::Global;
 
 // The words of a line that are left. Single blanks part them, so that an empty word stands between two blanks.
 #[derive(Clone, Copy)]
@@ -45,19 +45,16 @@ impl<'a> Words<'a> {
         Ok((value, is_on))
     }
 
-    // The numbers that are left, stored in the places lent.
-    pub fn numbers<'b>(self, places: &'b mut [u32]) -> Result<&'b [u32], Why>
-        ensures { IfOk result (λ numbers. length numbers.now ≤ length places.old) }
-    {
-        let mut count = 0;
+    // The numbers that are left, which are no more than so many.
+    pub fn numbers(self, alloc: Global, most: usize) -> Result<Vec<u32>, Why> {
+        let mut numbers = Vec::new(alloc);
         for word in self {
-            if places.len() <= count {
+            if numbers.len() == most {
                 return Err(Why::Many);
             }
-            places[count] = number(word)?;
-            count += 1;
+            numbers.push(number(word)?)?;
         }
-        Ok(front(places, count))
+        Ok(numbers)
     }
 }
 
@@ -101,13 +98,12 @@ pub fn number(word: &[u8]) -> Result<u32, Why> {
     Ok(value)
 }
 
-// Numbers as bytes, stored in the places lent.
-pub fn bytes<'a>(numbers: &[u32], places: &'a mut [u8]) -> Result<&'a [u8], Why> {
-    for (i, n) in numbers.iter().enumerate() {
-        let place = places.get_mut(i).ok_or(Why::Many)?;
-        *place = u8::try_from(*n).map_err(|_| Why::Byte)?;
-    }
-    Ok(front(places, numbers.len()))
+// Numbers as bytes.
+pub fn bytes(alloc: Global, numbers: &[u32]) -> Result<Vec<u8>, Why> {
+    numbers
+        .iter()
+        .map(|n| u8::try_from(*n).map_err(|_| Why::Byte))
+        .try_collect(alloc)
 }
 
 // The byte that two digits make.

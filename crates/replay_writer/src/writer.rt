@@ -9,6 +9,7 @@ use replay_words::stored::Cleanliness;
 use replay_words::why::Why;
 use replay_words::words::Words;
 use replay_words::{NUMBERS, PLACES, words};
+use std::alloc::Global;
 use std::fmt;
 use std::fmt::Display;
 use text_output::TextOutput;
@@ -66,11 +67,17 @@ impl Writer {
     }
 
     // Answers a line that begins with W, by the words after it.
-    pub fn operate(&mut self, mut words: Words, page: &[u32], out: &mut Answers) -> Result<(), Why> {
+    pub fn operate(
+        &mut self,
+        alloc: Global,
+        mut words: Words,
+        page: &[u32],
+        out: &mut Answers,
+    ) -> Result<(), Why> {
         match words.next() {
             Some(b"new") => self.open(words, out),
-            Some(b"chars") => self.write_chars(words, page, out),
-            Some(b"bytes") => self.write_bytes(words, page, out),
+            Some(b"chars") => self.write_chars(alloc, words, page, out),
+            Some(b"bytes") => self.write_bytes(alloc, words, page, out),
             Some(b"flush") => self.flush(words, out),
             Some(b"close") => self.close(words, out),
             Some(b"abandon") => self.abandon(words, out),
@@ -105,14 +112,19 @@ impl Writer {
     }
 
     // `W chars ROOM c c ..`
-    fn write_chars(&mut self, words: Words, page: &[u32], out: &mut Answers) -> Result<(), Why> {
-        let mut given = [0; NUMBERS];
-        let [size, chars @ ..] = words.numbers(&mut given)? else {
+    fn write_chars(
+        &mut self,
+        alloc: Global,
+        words: Words,
+        page: &[u32],
+        out: &mut Answers,
+    ) -> Result<(), Why> {
+        let given = words.numbers(alloc, NUMBERS)?;
+        let [size, chars @ ..] = given.as_slice() else {
             return Err(Why::Number);
         };
         let room = room(*size)?;
-        let mut before = [0; PLACES];
-        before[..room].copy_from_slice(&self.places[..room]);
+        let before = self.places[..room].to_vec(alloc)?;
         let written = write_str(self.record, page, chars, &mut self.places[..room]);
         self.record = written.next;
         self.came(handed_out(written.answer), None, room, &before, out);
@@ -120,19 +132,23 @@ impl Writer {
     }
 
     // `W bytes ROOM b b ..`
-    fn write_bytes(&mut self, words: Words, page: &[u32], out: &mut Answers) -> Result<(), Why> {
-        let mut given = [0; NUMBERS];
-        let [size, numbers @ ..] = words.numbers(&mut given)? else {
+    fn write_bytes(
+        &mut self,
+        alloc: Global,
+        words: Words,
+        page: &[u32],
+        out: &mut Answers,
+    ) -> Result<(), Why> {
+        let given = words.numbers(alloc, NUMBERS)?;
+        let [size, numbers @ ..] = given.as_slice() else {
             return Err(Why::Number);
         };
-        let mut bytes = [0; NUMBERS];
-        let bytes = words::bytes(numbers, &mut bytes)?;
+        let bytes = words::bytes(alloc, numbers)?;
         let room = room(*size)?;
-        let mut before = [0; PLACES];
-        before[..room].copy_from_slice(&self.places[..room]);
+        let before = self.places[..room].to_vec(alloc)?;
         let record = self.record;
         let lent = &mut self.places[..room];
-        let written = text_output_write::write(record, page, bytes, lent);
+        let written = text_output_write::write(record, page, &bytes, lent);
         self.record = written.next;
         self.came(handed_out(written.answer), Some(written.used), room, &before, out);
         Ok(())
