@@ -39,8 +39,11 @@ impl Line {
     }
 
     fn push(&mut self, bytes: &[u8]) {
-        let fitting = bytes.get(..self.bytes.remaining_capacity()).unwrap_or(bytes);
-        self.is_long |= fitting.len() < bytes.len() || self.bytes.try_extend_from_slice(fitting).is_err();
+        let fitting = bytes
+            .get(..self.bytes.remaining_capacity())
+            .unwrap_or(bytes);
+        self.is_long |= fitting.len() < bytes.len()
+            || self.bytes.try_extend_from_slice(fitting).is_err();
     }
 }
 

@@ -39,7 +39,7 @@ impl Session {
         let answered = if line.is_long() {
             Err(Why::Long)
         } else {
-            self.operate(alloc, Words::of(bytes), out)
+            self.operate(Words::of(alloc, bytes), out)
         };
         if let Err(why) = answered {
             out.line(why);
@@ -47,21 +47,21 @@ impl Session {
     }
 
     // Answers an operation.
-    fn operate(&mut self, alloc: Global, words: Words, out: &mut Answers) -> Result<(), Why> {
+    fn operate(&mut self, words: Words, out: &mut Answers) -> Result<(), Why> {
         let page = self.page.as_slice();
         let mut others = words;
         match others.next() {
-            Some(b"P") => self.turn_to(alloc, others, out),
-            Some(b"S") => self.scanner.operate(alloc, others, page, out),
-            Some(b"F") => filling::fill(alloc, others, out),
-            Some(b"W") => self.writer.operate(alloc, others, page, out),
-            _ => replay_leaves::operate(alloc, words, page, out),
+            Some(b"P") => self.turn_to(others, out),
+            Some(b"S") => self.scanner.operate(others, page, out),
+            Some(b"F") => filling::fill(others, out),
+            Some(b"W") => self.writer.operate(others, page, out),
+            _ => replay_leaves::operate(words, page, out),
         }
     }
 
     // `P n n n ..`: the current page, right or wrong.
-    fn turn_to(&mut self, alloc: Global, words: Words, out: &mut Answers) -> Result<(), Why> {
-        self.page = words.numbers(alloc, NUMBERS)?;
+    fn turn_to(&mut self, words: Words, out: &mut Answers) -> Result<(), Why> {
+        self.page = words.numbers(NUMBERS)?;
         let is_accepted = page::is_accepted(&self.page);
         out.line(format_args!("page {}", u8::from(is_accepted)));
         Ok(())

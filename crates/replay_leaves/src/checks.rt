@@ -5,7 +5,6 @@ use replay_words::answers::Answers;
 use replay_words::stored::Refused;
 use replay_words::why::Why;
 use replay_words::words::Words;
-use std::alloc::Global;
 
 // A fault's kind in an answer.
 fn word(kind: FaultKind) -> &'static str {
@@ -18,8 +17,8 @@ fn word(kind: FaultKind) -> &'static str {
 }
 
 // `A check c c ..`: `yes`, `fault PLACE KIND`, or the refusal.
-pub fn check(alloc: Global, words: Words, page: &[u32], out: &mut Answers) -> Result<(), Why> {
-    let run = words.numbers(alloc, NUMBERS)?;
+pub fn check(words: Words, page: &[u32], out: &mut Answers) -> Result<(), Why> {
+    let run = words.numbers(NUMBERS)?;
     match check_run::check_run(page, &run) {
         Verdict::Yes => out.line("yes"),
         Verdict::Fault(place, kind) => out.line(format_args!("fault {place:x} {}", word(kind))),

@@ -22,26 +22,20 @@ pub use reason::Unwritable;
 use replay_words::answers::Answers;
 use replay_words::why::Why;
 use replay_words::words::Words;
-use std::alloc::Global;
 
 // Answers a line whose words are none of another crate's operations.
-pub fn operate(
-    alloc: Global,
-    mut words: Words,
-    page: &[u32],
-    out: &mut Answers,
-) -> Result<(), Why> {
+pub fn operate(mut words: Words, page: &[u32], out: &mut Answers) -> Result<(), Why> {
     match (words.next(), words.next()) {
         (Some(b"L"), Some(b"replace")) => chars::replacement(words, out),
         (Some(b"L"), Some(b"check")) => chars::check(words, out),
         (Some(b"L"), Some(b"start")) => chars::start(words, page, out),
         (Some(b"L"), Some(b"end")) => chars::end(words, out),
-        (Some(b"L"), Some(b"utf8")) => runs::utf8(alloc, words, out),
-        (Some(b"L"), Some(b"isolate")) => runs::isolate(alloc, words, page, out),
-        (Some(b"A"), Some(b"check")) => checks::check(alloc, words, page, out),
-        (Some(b"U16"), Some(b"dec")) => units::decode(alloc, words, out),
-        (Some(b"U16"), Some(b"enc")) => units::encode(alloc, words, out),
-        (Some(b"G"), Some(b"fill")) => load::fill(alloc, words, out),
+        (Some(b"L"), Some(b"utf8")) => runs::utf8(words, out),
+        (Some(b"L"), Some(b"isolate")) => runs::isolate(words, page, out),
+        (Some(b"A"), Some(b"check")) => checks::check(words, page, out),
+        (Some(b"U16"), Some(b"dec")) => units::decode(words, out),
+        (Some(b"U16"), Some(b"enc")) => units::encode(words, out),
+        (Some(b"G"), Some(b"fill")) => load::fill(words, out),
         (Some(b"G"), Some(b"back")) => load::back(words, out),
         _ => Err(Why::Word),
     }

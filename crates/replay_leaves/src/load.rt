@@ -1,18 +1,17 @@
 // The operations on the generator of awkward text: `G fill` and `G back`.
 use replay_words::answers::Answers;
 use replay_words::listed::List;
-use replay_words::places::{Place, room};
+use replay_words::places::blank;
 use replay_words::why::Why;
 use replay_words::words::Words;
-use std::alloc::Global;
 
 // `G fill SEED N`: the state handed back, and every place.
-pub fn fill(alloc: Global, words: Words, out: &mut Answers) -> Result<(), Why> {
-    let given = words.numbers(alloc, 3)?;
+pub fn fill(words: Words, out: &mut Answers) -> Result<(), Why> {
+    let given = words.numbers(3)?;
     let [seed, count] = given.as_slice() else {
         return Err(Why::Number);
     };
-    let mut places = vec![in alloc; u32::BLANK; room(*count)?]?;
+    let mut places = blank(words.alloc, *count)?;
     let state = generator::fill(*seed, &mut places);
     let list = List(&places);
     out.line(format_args!("ok state={state:x} out={list}"));

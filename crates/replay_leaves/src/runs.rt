@@ -2,18 +2,17 @@
 use crate::outcomes::stored;
 use replay_words::answers::Answers;
 use replay_words::listed::List;
-use replay_words::places::{Place, front, room};
+use replay_words::places::{blank, front};
 use replay_words::stored::Stored;
 use replay_words::why::Why;
 use replay_words::words::Words;
 use replay_words::{NUMBERS, words};
-use std::alloc::Global;
 
 // `L utf8 b b ..`: how many bytes the longest valid prefix has, and its characters.
-pub fn utf8(alloc: Global, words: Words, out: &mut Answers) -> Result<(), Why> {
-    let given = words.numbers(alloc, NUMBERS)?;
-    let bytes = words::bytes(alloc, &given)?;
-    let mut places = vec![in alloc; 0; bytes.len()]?;
+pub fn utf8(words: Words, out: &mut Answers) -> Result<(), Why> {
+    let given = words.numbers(NUMBERS)?;
+    let bytes = words::bytes(words.alloc, &given)?;
+    let mut places = vec![in words.alloc; 0; bytes.len()]?;
     let prefix = scalars::decode_utf8(&bytes, &mut places);
     let list = List(front(&places, prefix.chars));
     out.line(format_args!("ok used={:x} out={list}", prefix.bytes));
@@ -21,17 +20,12 @@ pub fn utf8(alloc: Global, words: Words, out: &mut Answers) -> Result<(), Why> {
 }
 
 // `L isolate ROOM c c ..`
-pub fn isolate(
-    alloc: Global,
-    words: Words,
-    page: &[u32],
-    out: &mut Answers,
-) -> Result<(), Why> {
-    let given = words.numbers(alloc, NUMBERS)?;
+pub fn isolate(words: Words, page: &[u32], out: &mut Answers) -> Result<(), Why> {
+    let given = words.numbers(NUMBERS)?;
     let [size, chars @ ..] = given.as_slice() else {
         return Err(Why::Number);
     };
-    let mut places = vec![in alloc; u32::BLANK; room(*size)?]?;
+    let mut places = blank(words.alloc, *size)?;
     let outcome = stored(isolate_unassigned::isolate(page, chars, &mut places));
     out.line(Stored {
         places: &places,

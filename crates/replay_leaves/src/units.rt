@@ -2,12 +2,11 @@
 use crate::outcomes::stored;
 use common::UNPAIRED_SURROGATE;
 use replay_words::answers::Answers;
-use replay_words::places::{Place, room};
+use replay_words::places::blank;
 use replay_words::stored::{Refused, Stored};
 use replay_words::why::Why;
 use replay_words::words::Words;
 use replay_words::{NUMBERS, words};
-use std::alloc::Global;
 use std::fmt;
 use std::fmt::Display;
 use utf16::{ByteOrder, Decoded};
@@ -49,14 +48,14 @@ fn byte_order(words: &mut Words) -> Result<ByteOrder, Why> {
 }
 
 // `U16 dec le|be ROOM b b ..`, with the room in characters.
-pub fn decode(alloc: Global, mut words: Words, out: &mut Answers) -> Result<(), Why> {
+pub fn decode(mut words: Words, out: &mut Answers) -> Result<(), Why> {
     let order = byte_order(&mut words)?;
-    let given = words.numbers(alloc, NUMBERS)?;
+    let given = words.numbers(NUMBERS)?;
     let [size, numbers @ ..] = given.as_slice() else {
         return Err(Why::Number);
     };
-    let mut places = vec![in alloc; u32::BLANK; room(*size)?]?;
-    let bytes = words::bytes(alloc, numbers)?;
+    let mut places = blank(words.alloc, *size)?;
+    let bytes = words::bytes(words.alloc, numbers)?;
     let outcome = read(utf16::decode_utf16(order, &bytes, &mut places));
     out.line(Stored {
         places: &places,
@@ -66,13 +65,13 @@ pub fn decode(alloc: Global, mut words: Words, out: &mut Answers) -> Result<(), 
 }
 
 // `U16 enc le|be ROOM c c ..`, with the room in bytes.
-pub fn encode(alloc: Global, mut words: Words, out: &mut Answers) -> Result<(), Why> {
+pub fn encode(mut words: Words, out: &mut Answers) -> Result<(), Why> {
     let order = byte_order(&mut words)?;
-    let given = words.numbers(alloc, NUMBERS)?;
+    let given = words.numbers(NUMBERS)?;
     let [size, chars @ ..] = given.as_slice() else {
         return Err(Why::Number);
     };
-    let mut places = vec![in alloc; u8::BLANK; room(*size)?]?;
+    let mut places = blank(words.alloc, *size)?;
     let outcome = stored(utf16::encode_utf16(order, chars, &mut places));
     out.line(Stored {
         places: &places,

@@ -1,20 +1,24 @@
 // The operation `F`: a buffer of bytes, which holds a pattern beforehand, is filled from a queue.
+use replay_words::NUMBERS;
 use replay_words::answers::Answers;
 use replay_words::listed::Pairs;
 use replay_words::places::room;
 use replay_words::stored::Refused;
 use replay_words::why::Why;
 use replay_words::words::Words;
-use replay_words::{NUMBERS, words};
-use std::alloc::Global;
 use text_input_fill::Filled;
 
 // `F LEN PATTERN c c ..`: what filling answers, and the whole buffer as it is then.
-pub fn fill(alloc: Global, mut words: Words, out: &mut Answers) -> Result<(), Why> {
+pub fn fill(mut words: Words, out: &mut Answers) -> Result<(), Why> {
     let len = room(words.number()?)?;
-    let mut buffer = vec![in alloc; 0; len]?;
-    words::fill(words.next().ok_or(Why::Pattern)?, &mut buffer)?;
-    let queue = words.numbers(alloc, NUMBERS)?;
+    let pattern = words.pairs()?;
+    let mut buffer: Vec<u8> = pattern
+        .iter()
+        .copied()
+        .cycle()
+        .take(len)
+        .collect(words.alloc)?;
+    let queue = words.numbers(NUMBERS)?;
     // LEN is one of the numbers that a line can have.
     if queue.len() == NUMBERS {
         return Err(Why::Many);

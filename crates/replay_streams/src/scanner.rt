@@ -1,13 +1,12 @@
 // The operations `S ..`: calls on the current scanner.
 use basic_text_numbers::state_number;
 use replay_leaves::stored;
+use replay_words::NUMBERS;
 use replay_words::answers::Answers;
-use replay_words::places::{Place, room};
+use replay_words::places::blank;
 use replay_words::stored::{Refused, Stored};
 use replay_words::why::Why;
 use replay_words::words::Words;
-use replay_words::NUMBERS;
-use std::alloc::Global;
 use std::fmt;
 use std::fmt::Display;
 use text_input::{Options, Scanned, TextInput};
@@ -69,7 +68,6 @@ impl Scanner {
     // Answers a line that begins with S, by the words after it.
     pub fn operate(
         &mut self,
-        alloc: Global,
         mut words: Words,
         page: &[u32],
         out: &mut Answers,
@@ -77,10 +75,10 @@ impl Scanner {
         match words.next() {
             Some(b"new") => self.renew(words, out),
             Some(b"count") => self.count(words, out),
-            Some(b"ask") => self.ask(alloc, words, page, out),
-            Some(b"scan") => self.take(alloc, words, page, out, TextInput::scan),
-            Some(b"commit") => self.take(alloc, words, page, out, commit),
-            Some(b"fin") => self.finish(alloc, words, out),
+            Some(b"ask") => self.ask(words, page, out),
+            Some(b"scan") => self.take(words, page, out, TextInput::scan),
+            Some(b"commit") => self.take(words, page, out, commit),
+            Some(b"fin") => self.finish(words, out),
             _ => Err(Why::Word),
         }
     }
@@ -103,14 +101,8 @@ impl Scanner {
     }
 
     // `S ask OPT c c ..`, which leaves the record.
-    fn ask(
-        &self,
-        alloc: Global,
-        words: Words,
-        page: &[u32],
-        out: &mut Answers,
-    ) -> Result<(), Why> {
-        let given = words.numbers(alloc, NUMBERS)?;
+    fn ask(&self, words: Words, page: &[u32], out: &mut Answers) -> Result<(), Why> {
+        let given = words.numbers(NUMBERS)?;
         let [options, chunk @ ..] = given.as_slice() else {
             return Err(Why::Number);
         };
@@ -124,37 +116,30 @@ impl Scanner {
     }
 
     // `S scan OPT ROOM c c ..` and `S commit OPT ROOM c c ..`
-    fn take<F>(
-        &mut self,
-        alloc: Global,
-        words: Words,
-        page: &[u32],
-        out: &mut Answers,
-        call: F,
-    ) -> Result<(), Why>
+    fn take<F>(&mut self, words: Words, page: &[u32], out: &mut Answers, call: F) -> Result<(), Why>
     where
         F: FnOnce(TextInput, &[u32], Options, &[u32], &mut [u32]) -> Scanned,
         requires { F.IsAlwaysCallable call }
     {
-        let given = words.numbers(alloc, NUMBERS)?;
+        let given = words.numbers(NUMBERS)?;
         let [options, size, chunk @ ..] = given.as_slice() else {
             return Err(Why::Number);
         };
         let options = options_of(*options)?;
-        let mut places = vec![in alloc; u32::BLANK; room(*size)?]?;
+        let mut places = blank(words.alloc, *size)?;
         let scanned = call(self.record, page, options, chunk, &mut places);
         self.came(scanned, &places, out);
         Ok(())
     }
 
     // `S fin p ROOM` and `S fin e ROOM`
-    fn finish(&mut self, alloc: Global, mut words: Words, out: &mut Answers) -> Result<(), Why> {
+    fn finish(&mut self, mut words: Words, out: &mut Answers) -> Result<(), Why> {
         let eof = match words.next() {
             Some(b"p") => false,
             Some(b"e") => true,
             _ => return Err(Why::Word),
         };
-        let mut places = vec![in alloc; u32::BLANK; room(words.one_number()?)?]?;
+        let mut places = blank(words.alloc, words.one_number()?)?;
         let scanned = self.record.finish(eof, &mut places);
         self.came(scanned, &places, out);
         Ok(())

@@ -16,9 +16,9 @@ impl Display for Refused {
 
 // `clean`, or `dirty` where a call wrote a place that it was to leave as it was.
 #[derive(Clone, Copy)]
-pub struct Cleanliness(pub bool);
+pub struct Clean(pub bool);
 
-impl Display for Cleanliness {
+impl Display for Clean {
     fn fmt<W: fmt::Write>(&self, f: &mut fmt::Formatter<W>) -> fmt::Result {
         let word = if self.0 { "clean" } else { "dirty" };
         write!(f, "{word}")
@@ -44,7 +44,7 @@ impl<T: Place, E: Display> Display for Stored<'_, T, E> {
             }
             Err(refused) => write!(f, "{refused}")?,
         }
-        let clean = Cleanliness(is_blank(self.places, from));
+        let clean = Clean(is_blank(self.places, from));
         write!(f, " {clean}")
     }
 }

@@ -5,20 +5,29 @@ ghost use Rattle.std.specs.Iterator.{at_most};
 use crate::why::Why;
 use std::alloc::Global;
 
-// The words of a line that are left. Single blanks part them, so that an empty word stands between two blanks.
+// The words of a line that are left, and the allocator for what is made of them. Single blanks part them, so that an empty word stands
+// between two blanks.
 #[derive(Clone, Copy)]
 pub struct Words<'a> {
+    pub alloc: Global,
     rest: Option<&'a [u8]>,
 }
 
 impl<'a> Words<'a> {
-    pub fn of(line: &'a [u8]) -> Self {
-        Words { rest: Some(line) }
+    pub fn of(alloc: Global, line: &'a [u8]) -> Self {
+        Words {
+            alloc,
+            rest: Some(line),
+        }
     }
 
     // That none is left, or else this is why.
     pub fn end(self, why: Why) -> Result<(), Why> {
-        if self.rest.is_none() { Ok(()) } else { Err(why) }
+        if self.rest.is_none() {
+            Ok(())
+        } else {
+            Err(why)
+        }
     }
 
     // The next word as a number.
@@ -45,9 +54,9 @@ impl<'a> Words<'a> {
         Ok((value, is_on))
     }
 
-    // The numbers that are left, which are no more than so many.
-    pub fn numbers(self, alloc: Global, most: usize) -> Result<Vec<u32>, Why> {
-        let mut numbers = Vec::new(alloc);
+    // The numbers that are left, so many at most.
+    pub fn numbers(self, most: usize) -> Result<Vec<u32>, Why> {
+        let mut numbers = Vec::new(self.alloc);
         for word in self {
             if numbers.len() == most {
                 return Err(Why::Many);
@@ -55,6 +64,17 @@ impl<'a> Words<'a> {
             numbers.push(number(word)?)?;
         }
         Ok(numbers)
+    }
+
+    // The next word as bytes, each a pair of digits: at least one.
+    pub fn pairs(&mut self) -> Result<Vec<u8>, Why> {
+        let word = self.next().ok_or(Why::Pattern)?;
+        if word.is_empty() {
+            return Err(Why::Pattern);
+        }
+        word.chunks(2)
+            .map(|digits| byte(digits).ok_or(Why::Pattern))
+            .try_collect(self.alloc)
     }
 }
 
@@ -86,24 +106,16 @@ fn digit(b: u8) -> Option<u32>
 }
 
 // The value of a word: not of an empty one, one with another byte than a digit, or one above ffffffff.
-pub fn number(word: &[u8]) -> Result<u32, Why> {
+fn number(word: &[u8]) -> Result<u32, Why> {
     if word.is_empty() {
         return Err(Why::Number);
     }
     let mut value: u32 = 0;
     for b in word {
-        let d = digit(*b).ok_or(Why::Number)?;
-        value = value.checked_mul(16).ok_or(Why::Number)? | d;
+        let digit = digit(*b).ok_or(Why::Number)?;
+        value = value.checked_mul(16).ok_or(Why::Number)? | digit;
     }
     Ok(value)
-}
-
-// Numbers as bytes.
-pub fn bytes(alloc: Global, numbers: &[u32]) -> Result<Vec<u8>, Why> {
-    numbers
-        .iter()
-        .map(|n| u8::try_from(*n).map_err(|_| Why::Byte))
-        .try_collect(alloc)
 }
 
 // The byte that two digits make.
@@ -114,21 +126,10 @@ fn byte(digits: &[u8]) -> Option<u8> {
     Some((digit(*high)? * 16 + digit(*low)?) as u8)
 }
 
-// Fills a buffer with the bytes of a word of pairs of digits, over and over: not of an empty one, one with another byte than a digit,
-// or one with an odd number of them.
-pub fn fill(word: &[u8], buffer: &mut [u8]) -> Result<(), Why> {
-    if word.is_empty() {
-        return Err(Why::Pattern);
-    }
-    for (i, digits) in word.chunks(2).enumerate() {
-        let value = byte(digits).ok_or(Why::Pattern)?;
-        if i < buffer.len() {
-            buffer[i] = value;
-        }
-    }
-    let size = word.len() / 2;
-    for i in size..buffer.len() {
-        buffer[i] = buffer[i - size];
-    }
-    Ok(())
+// Numbers as bytes.
+pub fn bytes(alloc: Global, numbers: &[u32]) -> Result<Vec<u8>, Why> {
+    numbers
+        .iter()
+        .map(|n| u8::try_from(*n).map_err(|_| Why::Byte))
+        .try_collect(alloc)
 }

@@ -5,11 +5,10 @@ use basic_text_numbers::writer_state_number;
 use replay_words::answers::Answers;
 use replay_words::listed::List;
 use replay_words::places::{Place, front, room};
-use replay_words::stored::Cleanliness;
+use replay_words::stored::Clean;
 use replay_words::why::Why;
 use replay_words::words::Words;
 use replay_words::{NUMBERS, PLACES, words};
-use std::alloc::Global;
 use std::fmt;
 use std::fmt::Display;
 use text_output::TextOutput;
@@ -69,15 +68,14 @@ impl Writer {
     // Answers a line that begins with W, by the words after it.
     pub fn operate(
         &mut self,
-        alloc: Global,
         mut words: Words,
         page: &[u32],
         out: &mut Answers,
     ) -> Result<(), Why> {
         match words.next() {
             Some(b"new") => self.open(words, out),
-            Some(b"chars") => self.write_chars(alloc, words, page, out),
-            Some(b"bytes") => self.write_bytes(alloc, words, page, out),
+            Some(b"chars") => self.write_chars(words, page, out),
+            Some(b"bytes") => self.write_bytes(words, page, out),
             Some(b"flush") => self.flush(words, out),
             Some(b"close") => self.close(words, out),
             Some(b"abandon") => self.abandon(words, out),
@@ -112,19 +110,13 @@ impl Writer {
     }
 
     // `W chars ROOM c c ..`
-    fn write_chars(
-        &mut self,
-        alloc: Global,
-        words: Words,
-        page: &[u32],
-        out: &mut Answers,
-    ) -> Result<(), Why> {
-        let given = words.numbers(alloc, NUMBERS)?;
+    fn write_chars(&mut self, words: Words, page: &[u32], out: &mut Answers) -> Result<(), Why> {
+        let given = words.numbers(NUMBERS)?;
         let [size, chars @ ..] = given.as_slice() else {
             return Err(Why::Number);
         };
         let room = room(*size)?;
-        let before = self.places[..room].to_vec(alloc)?;
+        let before = self.places[..room].to_vec(words.alloc)?;
         let written = write_str(self.record, page, chars, &mut self.places[..room]);
         self.record = written.next;
         self.came(handed_out(written.answer), None, room, &before, out);
@@ -132,25 +124,25 @@ impl Writer {
     }
 
     // `W bytes ROOM b b ..`
-    fn write_bytes(
-        &mut self,
-        alloc: Global,
-        words: Words,
-        page: &[u32],
-        out: &mut Answers,
-    ) -> Result<(), Why> {
-        let given = words.numbers(alloc, NUMBERS)?;
+    fn write_bytes(&mut self, words: Words, page: &[u32], out: &mut Answers) -> Result<(), Why> {
+        let given = words.numbers(NUMBERS)?;
         let [size, numbers @ ..] = given.as_slice() else {
             return Err(Why::Number);
         };
-        let bytes = words::bytes(alloc, numbers)?;
+        let bytes = words::bytes(words.alloc, numbers)?;
         let room = room(*size)?;
-        let before = self.places[..room].to_vec(alloc)?;
+        let before = self.places[..room].to_vec(words.alloc)?;
         let record = self.record;
         let lent = &mut self.places[..room];
         let written = text_output_write::write(record, page, &bytes, lent);
         self.record = written.next;
-        self.came(handed_out(written.answer), Some(written.used), room, &before, out);
+        self.came(
+            handed_out(written.answer),
+            Some(written.used),
+            room,
+            &before,
+            out,
+        );
         Ok(())
     }
 
@@ -168,13 +160,13 @@ impl Writer {
         let record = Record(self.record);
         match outcome {
             Ok(n) => {
-                let clean = Cleanliness(is_same(lent, before, n));
+                let clean = Clean(is_same(lent, before, n));
                 let list = List(front(lent, n));
                 let used = Used(used);
                 out.line(format_args!("ok {used}k={n:x} out={list} {clean} | {record}"));
             }
             Err(failure) => {
-                let clean = Cleanliness(is_same(lent, before, failure.first_left(kept)));
+                let clean = Clean(is_same(lent, before, failure.first_left(kept)));
                 let list = List(front(&self.places, kept));
                 out.line(format_args!("{failure} buf={list} {clean} | {record}"));
             }
