@@ -38,12 +38,9 @@ impl Line {
         self.is_long = false;
     }
 
+    // Puts bytes behind the others, or none of them where the line is then too long.
     fn push(&mut self, bytes: &[u8]) {
-        let fitting = bytes
-            .get(..self.bytes.remaining_capacity())
-            .unwrap_or(bytes);
-        self.is_long |= fitting.len() < bytes.len()
-            || self.bytes.try_extend_from_slice(fitting).is_err();
+        self.is_long |= self.bytes.try_extend_from_slice(bytes).is_err();
     }
 }
 

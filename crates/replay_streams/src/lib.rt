@@ -1,4 +1,5 @@
-// The operations on streams of the program `replay`, by the letter that begins a line: S in `scanner`, F in `filling`.
+// The operations of the program `replay` on streams: `S ..` on a scanner and `F` on a queue that it
+// filled. Each has a module, with a function that answers a line.
 #![tactic(auto)]
 
 pub mod filling;
