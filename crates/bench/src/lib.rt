@@ -2,126 +2,81 @@
 // safe and promise nothing more: what they call has its contract, and the benchmark compares the sums with the Rust's.
 #![tactic(auto)]
 
-ghost use Rattle.std.specs.Prelude.{◌≡◌, true};
-ghost use Rattle.page.specs.Page.{accepted};
-
-use check_char::{Checked, check_basic_text_char};
-use check_run::{FaultKind, Verdict, check_run};
-use common::Answer;
+use check_char::check_basic_text_char;
+use check_run::{FaultKind, check_run};
+use common::Refusal;
 use generator::fill;
 use isolate_unassigned::isolate;
 use page::is_accepted;
 use replace::{Replaced, replace};
 use scalars::{decode_utf8, valid_prefix};
-use text_input::{Options, Scanned, State, TextInput};
-use text_input_price::{Price, ask, commit};
-use text_output::{TextOutput, Wrote};
+use text_input::{Options, State, TextInput};
+use text_input_price::{ask, commit};
+use text_output::{TextOutput, WriteError};
+use text_output_write::{write, write_str};
 use text_utils::{is_basic_text_end, is_basic_text_start};
-use utf16::{ByteOrder, Decoded, decode_utf16, encode_utf16};
+use utf16::{ByteOrder, decode_utf16, encode_utf16};
 
-// 1 for an end, else 0.
-fn one_end(c: u32) -> u32 {
-    if is_basic_text_end(c) {
-        return 1;
-    }
-    0
-}
-
-// 1 for a start, else 0. Inner: asks for an accepted page.
-fn one_start(page: &[u32], c: u32) -> u32
-    requires { accepted page.now ≡ true }
+// How many of the characters pass a test.
+fn count_of<F: Fn(u32) -> bool>(cs: &[u32], passes: F) -> u32
+    requires { F.IsAlwaysCallable passes }
 {
-    if is_basic_text_start(page, c) {
-        return 1;
+    let mut count: u32 = 0;
+    for c in cs {
+        if passes(*c) {
+            count = count.wrapping_add(1);
+        }
     }
-    0
-}
-
-// The sum of the characters that replace c.
-fn one_replace(c: u32) -> u32 {
-    let r = replace(c);
-    match r {
-        Replaced::One(a) => a,
-        Replaced::Two(a, b) => std::num::wrapping_add_u32(a, b),
-        Replaced::Three(a, b, d) => std::num::wrapping_add_u32(std::num::wrapping_add_u32(a, b), d),
-    }
-}
-
-// 1 for a character that the check accepts, else 0.
-fn one_check(c: u32) -> u32 {
-    let r = check_basic_text_char(c);
-    if let Checked::Ok = r {
-        return 1;
-    }
-    0
+    count
 }
 
 // How many of the characters are ends.
 #[unsafe(no_mangle)]
 pub extern "C" fn bench_end(cs: &[u32]) -> u32 {
-    let mut sum: u32 = 0;
-    let mut i = 0;
-    while i < cs.len() {
-        sum = std::num::wrapping_add_u32(sum, one_end(cs[i]));
-        i += 1;
-    }
-    sum
-}
-
-// How many of the characters are starts. Inner: asks for an accepted page.
-fn starts(page: &[u32], cs: &[u32]) -> u32
-    requires { accepted page.now ≡ true }
-{
-    let mut sum: u32 = 0;
-    let mut i = 0;
-    while i < cs.len() {
-        sum = std::num::wrapping_add_u32(sum, one_start(page, cs[i]));
-        i += 1;
-    }
-    sum
+    count_of(cs, is_basic_text_end)
 }
 
 // How many of the characters are starts; 0 where the page is not accepted.
 #[unsafe(no_mangle)]
 pub extern "C" fn bench_start(page: &[u32], cs: &[u32]) -> u32 {
     if is_accepted(page) {
-        return starts(page, cs);
+        count_of(cs, |c| is_basic_text_start(page, c))
+    } else {
+        0
     }
-    0
+}
+
+// The sum of the characters that replace c.
+fn replacement_sum(c: u32) -> u32 {
+    match replace(c) {
+        Replaced::One(x) => x,
+        Replaced::Two(x, y) => x.wrapping_add(y),
+        Replaced::Three(x, y, z) => x.wrapping_add(y).wrapping_add(z),
+    }
 }
 
 // The sum of all that replaces the characters.
 #[unsafe(no_mangle)]
 pub extern "C" fn bench_replace(cs: &[u32]) -> u32 {
-    let mut sum: u32 = 0;
-    let mut i = 0;
-    while i < cs.len() {
-        sum = std::num::wrapping_add_u32(sum, one_replace(cs[i]));
-        i += 1;
-    }
-    sum
+    cs.iter()
+        .fold(0, |sum: u32, c| sum.wrapping_add(replacement_sum(*c)))
 }
 
 // How many of the characters the check accepts.
 #[unsafe(no_mangle)]
 pub extern "C" fn bench_check(cs: &[u32]) -> u32 {
-    let mut sum: u32 = 0;
-    let mut i = 0;
-    while i < cs.len() {
-        sum = std::num::wrapping_add_u32(sum, one_check(cs[i]));
-        i += 1;
-    }
-    sum
+    count_of(cs, |c| check_basic_text_char(c).is_ok())
+}
+
+// How many places a call wrote; 0 where it is refused.
+fn written(answer: Result<usize, Refusal>) -> usize {
+    answer.unwrap_or(0)
 }
 
 // How many places of out a run is isolated into; 0 where it is refused.
 #[unsafe(no_mangle)]
 pub extern "C" fn bench_isolate(page: &[u32], cs: &[u32], out: &mut [u32]) -> usize {
-    let answer = isolate(page, cs, out);
-    match answer {
-        Answer::Written(n) => n,
-        Answer::Refused(_) => 0,
-    }
+    written(isolate(page, cs, out))
 }
 
 // A number for a fault's kind: 1 to 4.
@@ -138,17 +93,13 @@ fn kind_number(kind: FaultKind) -> usize {
 // refused.
 #[unsafe(no_mangle)]
 pub extern "C" fn bench_check_run(page: &[u32], cs: &[u32]) -> usize {
-    let verdict = check_run(page, cs);
-    match verdict {
-        Verdict::Yes => 0,
-        Verdict::Fault(place, kind) => {
-            let twice = std::num::wrapping_add_usize(place, place);
-            std::num::wrapping_add_usize(
-                std::num::wrapping_add_usize(twice, twice),
-                kind_number(kind),
-            )
-        }
-        Verdict::Refused(_) => usize::MAX,
+    match check_run(page, cs) {
+        Ok(None) => 0,
+        Ok(Some(fault)) => fault
+            .place
+            .wrapping_mul(4)
+            .wrapping_add(kind_number(fault.kind)),
+        Err(_) => usize::MAX,
     }
 }
 
@@ -161,44 +112,34 @@ pub extern "C" fn bench_page(page: &[u32]) -> bool {
 // How many bytes the longest valid prefix has.
 #[unsafe(no_mangle)]
 pub extern "C" fn bench_prefix(bytes: &[u8]) -> usize {
-    let p = valid_prefix(bytes);
-    p.bytes
+    valid_prefix(bytes).bytes
 }
 
 // How many places of out the characters of the longest valid prefix are decoded into.
 #[unsafe(no_mangle)]
 pub extern "C" fn bench_decode(bytes: &[u8], out: &mut [u32]) -> usize {
-    let p = decode_utf8(bytes, out);
-    p.chars
+    decode_utf8(bytes, out).chars
 }
 
 // The byte order that a flag says.
 fn byte_order(big: bool) -> ByteOrder {
     if big {
-        return ByteOrder::Big;
+        ByteOrder::Big
+    } else {
+        ByteOrder::Little
     }
-    ByteOrder::Little
 }
 
 // How many places of out UTF-16 is decoded into; 0 where it is refused.
 #[unsafe(no_mangle)]
 pub extern "C" fn bench_decode_utf16(big: bool, bytes: &[u8], out: &mut [u32]) -> usize {
-    let answer = decode_utf16(byte_order(big), bytes, out);
-    match answer {
-        Decoded::Chars(n) => n,
-        Decoded::Unpaired(_) => 0,
-        Decoded::Refused(_) => 0,
-    }
+    decode_utf16(byte_order(big), bytes, out).unwrap_or(0)
 }
 
 // How many bytes of out characters are encoded into as UTF-16; 0 where they are refused.
 #[unsafe(no_mangle)]
 pub extern "C" fn bench_encode_utf16(big: bool, chars: &[u32], out: &mut [u8]) -> usize {
-    let answer = encode_utf16(byte_order(big), chars, out);
-    match answer {
-        Answer::Written(n) => n,
-        Answer::Refused(_) => 0,
-    }
+    written(encode_utf16(byte_order(big), chars, out))
 }
 
 // Fills the places with awkward text from a state on, and hands back the state after it. The benchmark draws its awkward text by it.
@@ -218,12 +159,12 @@ fn in_text() -> TextInput {
     }
 }
 
-// How many places a call filled; 0 where it was refused.
-fn places_filled(scanned: Scanned) -> usize {
-    let answer = scanned.answer;
-    match answer {
-        Answer::Written(n) => n,
-        Answer::Refused(_) => 0,
+// The options by their flags.
+fn options(nel: bool, lsps: bool, units: bool) -> Options {
+    Options {
+        nel_compatibility: nel,
+        lsps_compatibility: lsps,
+        units_compatibility: units,
     }
 }
 
@@ -237,12 +178,8 @@ pub extern "C" fn bench_scan(
     chunk: &[u32],
     queue: &mut [u32],
 ) -> usize {
-    let options = Options {
-        nel_compatibility: nel,
-        lsps_compatibility: lsps,
-        units_compatibility: units,
-    };
-    places_filled(in_text().scan(page, options, chunk, queue))
+    let options = options(nel, lsps, units);
+    written(in_text().scan(page, options, chunk, queue).answer)
 }
 
 // The same by a commit.
@@ -255,12 +192,8 @@ pub extern "C" fn bench_commit(
     chunk: &[u32],
     queue: &mut [u32],
 ) -> usize {
-    let options = Options {
-        nel_compatibility: nel,
-        lsps_compatibility: lsps,
-        units_compatibility: units,
-    };
-    places_filled(commit(in_text(), page, options, chunk, queue))
+    let options = options(nel, lsps, units);
+    written(commit(in_text(), page, options, chunk, queue).answer)
 }
 
 // How many places a chunk fills, from the same record; 0 where asking is refused.
@@ -272,52 +205,33 @@ pub extern "C" fn bench_ask(
     units: bool,
     chunk: &[u32],
 ) -> usize {
-    let options = Options {
-        nel_compatibility: nel,
-        lsps_compatibility: lsps,
-        units_compatibility: units,
-    };
-    let price = ask(in_text(), page, options, chunk);
-    match price {
-        Price::Places(n) => n,
-        Price::Refused(_) => 0,
-    }
+    written(ask(in_text(), page, options(nel, lsps, units), chunk))
 }
 
 // A plain or a CRLF writer, as opened but that it expects no start.
 fn writer(crlf: bool) -> TextOutput {
-    let mut w = TextOutput::new();
-    if crlf {
-        w = TextOutput::with_crlf_compatibility();
-    }
-    w.expect_starter = false;
-    w
+    let mut opened = if crlf {
+        TextOutput::with_crlf_compatibility()
+    } else {
+        TextOutput::new()
+    };
+    opened.expect_starter = false;
+    opened
 }
 
 // How many characters a write hands out; 0 where it is refused.
-fn handed_out(answer: Wrote) -> usize {
-    match answer {
-        Wrote::HandedOut(n) => n,
-        Wrote::Refused(_) => 0,
-        Wrote::Abandon(_) => 0,
-        Wrote::Unwritable(_) => 0,
-    }
+fn handed_out(answer: Result<usize, WriteError>) -> usize {
+    answer.unwrap_or(0)
 }
 
 // How many places of out a write of characters hands out.
 #[unsafe(no_mangle)]
 pub extern "C" fn bench_write(page: &[u32], crlf: bool, chars: &[u32], out: &mut [u32]) -> usize {
-    let w = writer(crlf);
-    let written = text_output_write::write_str(w, page, chars, out);
-    let answer = written.answer;
-    handed_out(answer)
+    handed_out(write_str(writer(crlf), page, chars, out).answer)
 }
 
 // The same of a write of bytes to a plain writer.
 #[unsafe(no_mangle)]
 pub extern "C" fn bench_write_bytes(page: &[u32], bytes: &[u8], out: &mut [u32]) -> usize {
-    let w = writer(false);
-    let written = text_output_write::write(w, page, bytes, out);
-    let answer = written.answer;
-    handed_out(answer)
+    handed_out(write(writer(false), page, bytes, out).answer)
 }

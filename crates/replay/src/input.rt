@@ -1,70 +1,94 @@
 // The lines of the input, which is read in blocks.
-use replay_words::lines;
+ghost use Rattle.std.specs.Prelude.{◌≤◌};
+
+use arrayvec::ArrayVec;
 
 // The descriptor of standard input.
 const STANDARD_INPUT: i32 = 0;
 
-// How far the input is read: the bytes of the block, those that are taken, the bytes of the line, and whether more may follow.
-#[derive(Clone, Copy)]
-pub struct Read {
-    pub got: usize,
-    pub taken: usize,
-    pub line: usize,
-    pub more: bool,
+// The limit on a line.
+const LONGEST: usize = 98304;
+
+// A line without its end.
+#[derive(Drop)]
+pub struct Line {
+    bytes: ArrayVec<u8, LONGEST>,
+    // Whether it has more bytes, which are left out.
+    is_long: bool,
 }
 
-// Before the first block.
-pub fn start() -> Read {
-    Read {
-        got: 0,
-        taken: 0,
-        line: 0,
-        more: true,
+impl Line {
+    pub fn new() -> Self {
+        Line {
+            bytes: ArrayVec::new(),
+            is_long: false,
+        }
+    }
+
+    pub fn as_slice(&self) -> &[u8] {
+        self.bytes.as_slice()
+    }
+
+    pub fn is_long(&self) -> bool {
+        self.is_long
+    }
+
+    fn clear(&mut self) {
+        self.bytes.clear();
+        self.is_long = false;
+    }
+
+    // Puts bytes behind the others, or none of them where the line is then too long.
+    fn push(&mut self, bytes: &[u8]) {
+        self.is_long |= self.bytes.try_extend_from_slice(bytes).is_err();
     }
 }
 
-// Reads a block, and answers how many bytes it has: none at the end of the input, or where a read fails.
-fn fill(block: &mut [u8]) -> usize {
-    io::read_full(STANDARD_INPUT, block)
+// The input, and what is read of it: a block's bytes from taken up to read are still to be taken.
+#[derive(Drop)]
+pub struct Input {
+    block: [u8; 65536],
+    taken: usize,
+    read: usize,
+    ghost ordered: { taken ≤ read },
+    ghost within: { read ≤ 65536 },
 }
 
-// Gathers the next line. A proved loop has to end, and nothing says that the input does: so the loop counts its turns down, from a
-// number that no run uses up.
-pub fn next_line(block: &mut [u8], line: &mut [u8], before: Read) -> Read {
-    let mut got = before.got;
-    let mut taken = before.taken;
-    let mut n = 0;
-    let mut turns = u64::MAX;
-    while turns > 0 {
-        turns -= 1;
-        if got <= taken {
-            got = fill(block);
-            taken = 0;
-            if got == 0 {
-                break;
+impl Input {
+    // Before the first block.
+    pub fn new() -> Self {
+        Input {
+            block: io::large_buffer(),
+            taken: 0,
+            read: 0,
+        }
+    }
+
+    // Reads a line, of which nothing may be left, and answers whether more may follow: not at the end of the input, or where a read
+    // fails.
+    pub fn read_line(&mut self, line: &mut Line) -> bool {
+        line.clear();
+        for _ in 0..u64::MAX {
+            if self.taken == self.read {
+                self.taken = 0;
+                self.read = io::read_full(STANDARD_INPUT, &mut self.block);
+                if self.read == 0 {
+                    return false;
+                }
             }
-            continue;
+            let rest = &self.block[self.taken..self.read];
+            match rest.iter().position(|b| *b == b'\n') {
+                Some(end) => {
+                    line.push(&rest[..end]);
+                    self.taken += end + 1;
+                    return true;
+                }
+                None => {
+                    line.push(rest);
+                    self.taken = self.read;
+                }
+            }
         }
-        // A block has no more bytes than its buffer.
-        if block.len() <= taken {
-            break;
-        }
-        let b = block[taken];
-        taken += 1;
-        if b == b'\n' {
-            return Read {
-                got,
-                taken,
-                line: n,
-                more: true,
-            };
-        }
-        n = lines::push(line, n, b);
-    }
-    Read {
-        got: 0,
-        taken: 0,
-        line: n,
-        more: false,
+        false
     }
 }

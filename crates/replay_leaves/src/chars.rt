@@ -1,52 +1,59 @@
 // The operations on one character: `L replace`, `L check`, `L start` and `L end`.
-use crate::reason;
-use check_char::BasicTextError;
-use common::{NOT_A_CHAR, UNWRITABLE};
+use crate::outcomes::refused;
+use crate::reason::Unwritable;
+use check_char::CheckError;
+use common::Refusal;
 use replace::Replaced;
-use replay_words::{answer, front};
-use text_utils::Class;
+use replay_words::answers::Answers;
+use replay_words::listed::List;
+use replay_words::why::Why;
+use replay_words::words::Words;
 
-// `ok n=N out=LIST` with the first n of three characters.
-fn replaced_by(out: &mut [u8], at: usize, n: usize, chars: [u32; 3]) -> usize {
-    let stored = front::numbers(&chars, n);
-    let end = answer::listed(out, at, b"ok n=# out=", &[n as u64], stored);
-    answer::byte(out, end, b'\n')
+// `ok n=N out=LIST`
+fn replaced_by(chars: &[u32], out: &mut Answers) {
+    let list = List(chars);
+    out.line(format_args!("ok n={:x} out={list}", chars.len()));
 }
 
-// `L replace c`, and with the option `L replace c 1`
-pub fn replacement(units: bool, c: u32, out: &mut [u8], at: usize) -> usize {
-    let found = replace::replacement(units, c);
-    match found {
-        replace::Answer::Refused(n) => answer::no(out, at, n),
-        replace::Answer::Chars(r) => match r {
-            Replaced::One(x) => replaced_by(out, at, 1, [x, 0, 0]),
-            Replaced::Two(x, y) => replaced_by(out, at, 2, [x, y, 0]),
-            Replaced::Three(x, y, z) => replaced_by(out, at, 3, [x, y, z]),
-        },
+// `L replace c`, and with the option for units `L replace c 1`
+pub fn replacement(words: Words, out: &mut Answers) -> Result<(), Why> {
+    let (c, units) = words.number_and_option()?;
+    match replace::replacement(units, c) {
+        Err(why) => out.line(refused(why)),
+        Ok(Replaced::One(x)) => replaced_by(&[x], out),
+        Ok(Replaced::Two(x, y)) => replaced_by(&[x, y], out),
+        Ok(Replaced::Three(x, y, z)) => replaced_by(&[x, y, z], out),
     }
-}
-
-// `no 4` with the reason.
-fn refused(e: BasicTextError, out: &mut [u8], at: usize) -> usize {
-    let mut end = answer::refusal(out, at, UNWRITABLE);
-    end = reason::told(out, end, e);
-    answer::byte(out, end, b'\n')
+    Ok(())
 }
 
 // `L check c`, and with the option `L check c 1`
-pub fn check(units: bool, c: u32, out: &mut [u8], at: usize) -> usize {
-    let found = check_char::check(units, c);
+pub fn check(words: Words, out: &mut Answers) -> Result<(), Why> {
+    let (c, units) = words.number_and_option()?;
+    match check_char::check(units, c) {
+        Ok(()) => out.line("ok"),
+        Err(CheckError::NotAChar) => out.line(refused(Refusal::NotAChar)),
+        Err(CheckError::Unwritable(e)) => out.line(Unwritable(e)),
+    }
+    Ok(())
+}
+
+// `ok 0`, `ok 1`, or the refusal.
+fn class(found: Result<bool, Refusal>, out: &mut Answers) {
     match found {
-        check_char::Answer::Accepted => answer::text(out, at, b"ok\n"),
-        check_char::Answer::NotAChar => answer::no(out, at, NOT_A_CHAR),
-        check_char::Answer::Refused(e) => refused(e, out, at),
+        Ok(is) => out.line(format_args!("ok {}", u8::from(is))),
+        Err(why) => out.line(refused(why)),
     }
 }
 
-// `L start c` and `L end c`: `ok 0`, `ok 1`, or the refusal.
-pub fn class(found: Class, out: &mut [u8], at: usize) -> usize {
-    match found {
-        Class::Refused(n) => answer::no(out, at, n),
-        Class::Is(is) => answer::told(out, at, b"ok #\n", &[answer::bit(is)]),
-    }
+// `L start c`
+pub fn start(words: Words, page: &[u32], out: &mut Answers) -> Result<(), Why> {
+    class(text_utils::start_class(page, words.one_number()?), out);
+    Ok(())
+}
+
+// `L end c`
+pub fn end(words: Words, out: &mut Answers) -> Result<(), Why> {
+    class(text_utils::end_class(words.one_number()?), out);
+    Ok(())
 }

@@ -1,39 +1,28 @@
 // The check of a run: `A check`.
-use check_run::{FaultKind, Verdict};
-use replay_words::words::Stored;
-use replay_words::{NUMBERS, answer, front, words};
+use crate::outcomes::refused;
+use check_run::FaultKind;
+use replay_words::NUMBERS;
+use replay_words::answers::Answers;
+use replay_words::why::Why;
+use replay_words::words::Words;
 
-// A fault's kind, with the line's end.
-fn kind(kind: FaultKind, out: &mut [u8], at: usize) -> usize {
+// A fault's kind in an answer.
+fn word(kind: FaultKind) -> &'static str {
     match kind {
-        FaultKind::Char => answer::text(out, at, b"char\n"),
-        FaultKind::Start => answer::text(out, at, b"start\n"),
-        FaultKind::End => answer::text(out, at, b"end\n"),
-        FaultKind::Newline => answer::text(out, at, b"newline\n"),
+        FaultKind::Char => "char",
+        FaultKind::Start => "start",
+        FaultKind::End => "end",
+        FaultKind::Newline => "newline",
     }
 }
 
-// `yes`, `fault PLACE KIND`, or the refusal.
-fn told(found: Verdict, out: &mut [u8], at: usize) -> usize {
-    match found {
-        Verdict::Yes => answer::text(out, at, b"yes\n"),
-        Verdict::Fault(place, what) => {
-            let end = answer::told(out, at, b"fault # ", &[place as u64]);
-            kind(what, out, end)
-        }
-        Verdict::Refused(n) => answer::no(out, at, n),
+// `A check c c ..`: `yes`, `fault PLACE KIND`, or the refusal.
+pub fn check(words: Words, page: &[u32], out: &mut Answers) -> Result<(), Why> {
+    let run = words.numbers(NUMBERS)?;
+    match check_run::check_run(page, &run) {
+        Ok(None) => out.line("yes"),
+        Ok(Some(fault)) => out.line(format_args!("fault {:x} {}", fault.place, word(fault.kind))),
+        Err(why) => out.line(refused(why)),
     }
-}
-
-// `A check c c ..`
-pub fn check(line: &[u8], place: usize, page: &[u32], out: &mut [u8], at: usize) -> usize {
-    let mut numbers = [0u32; NUMBERS];
-    match words::numbers(line, place, &mut numbers) {
-        Stored::Bad(why) => answer::refuse(out, at, why),
-        Stored::All(n) => told(
-            check_run::check_run(page, front::numbers(&numbers, n)),
-            out,
-            at,
-        ),
-    }
+    Ok(())
 }

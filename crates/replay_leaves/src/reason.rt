@@ -1,25 +1,30 @@
-// A refused character in an answer: the reason's number and what it carries, without the line's end.
+// A refused character in an answer.
+use crate::outcomes::refused;
 use check_char::{BasicTextError, Reason, reason_of};
-use replay_words::{answer, front};
+use common::Refusal;
+use replay_words::listed::List;
+use replay_words::places::front;
+use std::fmt;
+use std::fmt::Display;
 
-// ` c=C`, and ` y=LIST` where the reason names replacements.
-fn named(out: &mut [u8], at: usize, why: Reason) -> usize {
-    let values = [why.character as u64];
-    if why.size < 3 {
-        return answer::told(out, at, b" c=#", &values);
-    }
-    let chars = [why.first, why.second, why.third];
-    let replacements = front::numbers(&chars, why.count as usize);
-    answer::listed(out, at, b" c=# y=", &values, replacements)
-}
+// The refusal of a character, for this reason.
+#[derive(Clone, Copy)]
+pub struct Unwritable(pub BasicTextError);
 
-// ` r=R`, and what the reason names.
-pub fn told(out: &mut [u8], at: usize, e: BasicTextError) -> usize {
-    let why = reason_of(e);
-    let mut end = answer::text(out, at, b" r=");
-    end = answer::decimal(out, end, why.number);
-    if why.size < 2 {
-        return end;
+// `no 4 r=R`, and ` c=C` and ` y=LIST` where the reason names a character and replacements.
+impl Display for Unwritable {
+    fn fmt<W: fmt::Write>(&self, f: &mut fmt::Formatter<W>) -> fmt::Result {
+        let refused = refused(Refusal::Unwritable);
+        let why = reason_of(self.0);
+        write!(f, "{refused} r={}", why.number)?;
+        if 2 <= why.size {
+            write!(f, " c={:x}", why.character)?;
+        }
+        if 3 <= why.size {
+            let chars = [why.first, why.second, why.third];
+            let list = List(front(&chars, why.count as usize));
+            write!(f, " y={list}")?;
+        }
+        Ok(())
     }
-    named(out, end, why)
 }

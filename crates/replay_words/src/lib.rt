@@ -1,15 +1,18 @@
-// The language of the program `replay`: the words and the numbers of a line are read here, and the
-// answers are written. It knows nothing of the operations.
-//
-// A function that answers is lent out, the answers that wait to be written, with at, how many bytes
-// they are, and answers how many they are then.
+// The language of the program `replay`: the words and the numbers of a line are read here, and the answers are written. It knows
+// nothing of the operations.
+//     words.rt     the words and the numbers of a line
+//     why.rt       why a line is no operation
+//     answers.rt   the answers that wait to be written
+//     listed.rt    lists of numbers and of bytes in an answer
+//     places.rt    the places that are lent to a call, and whether it left them as they were
+//     stored.rt    the answer of a call that stores in them
 #![tactic(auto)]
 
-pub mod answer;
-pub mod blank;
-pub mod front;
-pub mod lent;
-pub mod lines;
+pub mod answers;
+pub mod listed;
+pub mod places;
+pub mod stored;
+pub mod why;
 pub mod words;
 
 // How many numbers a line can have.

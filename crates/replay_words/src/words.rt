@@ -1,233 +1,135 @@
-// The words and the numbers of a line, which single blanks part. A place in a line is where a word
-// ends: at the blank before the next, or at the line's end.
-ghost use Rattle.std.specs.Prelude.{◌≤◌};
+// The words and the numbers of a line.
+ghost use Rattle.std.specs.Prelude.{◌<◌, ◌+◌, IfSome, length, option_map, unwrap_or};
+ghost use Rattle.std.specs.Iterator.{at_most};
 
-use crate::answer::Why;
-use crate::lines;
+use crate::why::Why;
+use std::alloc::Global;
 
-// The byte at an index of a line, and past the line's end a newline, which no line has.
-pub fn byte_at(line: &[u8], i: usize) -> u8 {
-    if i < line.len() {
-        return line[i];
-    }
-    b'\n'
-}
-
-// Which of some operations a line is, counted from 0, and the place where its words end.
+// The words of a line that are left, and the allocator for what is made of them. Single blanks part them, so that an empty word stands
+// between two blanks.
 #[derive(Clone, Copy)]
-pub struct Operation {
-    pub number: usize,
-    pub place: usize,
+pub struct Words<'a> {
+    pub alloc: Global,
+    rest: Option<&'a [u8]>,
 }
 
-// The first of the operations listed with whose words a line begins, a blank or the line's end behind
-// them. Each operation's words end with a newline. Where it is none, the number is how many they are.
-pub fn which(line: &[u8], listed: &[u8]) -> Operation {
-    let mut number = 0;
-    let mut place = 0;
-    let mut same = true;
-    let mut i = 0;
-    while i < listed.len() {
-        let expected = listed[i];
-        let found = byte_at(line, place);
-        if expected != b'\n' {
-            same = same & (found == expected);
-            place += 1;
+impl<'a> Words<'a> {
+    pub fn of(alloc: Global, line: &'a [u8]) -> Self {
+        Words {
+            alloc,
+            rest: Some(line),
+        }
+    }
+
+    // That none is left, or else this is why.
+    pub fn end(self, why: Why) -> Result<(), Why> {
+        if self.rest.is_none() {
+            Ok(())
         } else {
-            if same & ((found == b' ') | (found == b'\n')) {
-                return Operation { number, place };
-            }
-            number += 1;
-            place = 0;
-            same = true;
-        }
-        i += 1;
-    }
-    Operation { number, place }
-}
-
-// The value of a hexadecimal digit, 16 for any other byte.
-fn digit(b: u8) -> u32
-    ensures { result ≤ 16 }
-{
-    if b < b'0' {
-        16
-    } else if b <= b'9' {
-        (b - b'0') as u32
-    } else if b < b'a' {
-        16
-    } else if b <= b'f' {
-        (b - b'a') as u32 + 10
-    } else {
-        16
-    }
-}
-
-// A number and the place where it ends, or that none stands there.
-#[derive(Clone, Copy)]
-pub enum Value {
-    Is(u32, usize),
-    No,
-}
-
-// The number whose first digit is at index from: not an empty word, one with another byte than a
-// digit, or one above ffffffff.
-pub fn number(line: &[u8], from: usize) -> Value {
-    let mut value: u32 = 0;
-    let mut i = from;
-    while i < line.len() {
-        let b = line[i];
-        if b == b' ' {
-            break;
-        }
-        let d = digit(b);
-        if d > 15 {
-            return Value::No;
-        }
-        if value > 0x0fff_ffff {
-            return Value::No;
-        }
-        value = value * 16 + d;
-        i += 1;
-    }
-    if i == from {
-        return Value::No;
-    }
-    Value::Is(value, i)
-}
-
-// The number after a place.
-pub fn next(line: &[u8], place: usize) -> Value {
-    if place < line.len() {
-        return number(line, place + 1);
-    }
-    Value::No
-}
-
-// A number of places or bytes.
-pub fn size(n: u32) -> usize {
-    n as usize
-}
-
-// The one number of an operation, or why there is none.
-#[derive(Clone, Copy)]
-pub enum Single {
-    Is(u32),
-    Bad(Why),
-}
-
-// The number from a place to the line's end.
-pub fn one_number(line: &[u8], place: usize) -> Single {
-    if let Value::Is(value, end) = next(line, place) {
-        if end == line.len() {
-            return Single::Is(value);
+            Err(why)
         }
     }
-    Single::Bad(Why::Number)
-}
 
-// A number and whether an option is on, or why neither stands there.
-#[derive(Clone, Copy)]
-pub enum Switched {
-    Is(u32, bool),
-    Bad(Why),
-}
-
-// The number from a place to the line's end, or to a last word 1, by which the option is on.
-pub fn switched_number(line: &[u8], place: usize) -> Switched {
-    let Value::Is(value, end) = next(line, place) else {
-        return Switched::Bad(Why::Number);
-    };
-    if end == line.len() {
-        return Switched::Is(value, false);
+    // The next word as a number.
+    pub fn number(&mut self) -> Result<u32, Why> {
+        number(self.next().ok_or(Why::Number)?)
     }
-    if end < line.len() {
-        if line.len() - end == 2 {
-            if line[end + 1] == b'1' {
-                return Switched::Is(value, true);
-            }
-        }
+
+    // The one number that is left.
+    pub fn one_number(mut self) -> Result<u32, Why> {
+        let value = self.number()?;
+        self.end(Why::Number)?;
+        Ok(value)
     }
-    Switched::Bad(Why::Word)
-}
 
-// How many are stored, or why not all can be.
-#[derive(Clone, Copy)]
-pub enum Stored {
-    All(usize),
-    Bad(Why),
-}
-
-// Stores the numbers from a place to the line's end. Each turn starts at a place.
-pub fn numbers(line: &[u8], place: usize, out: &mut [u32]) -> Stored {
-    let mut at = place;
-    let mut n = 0;
-    while at < line.len() {
-        if n >= out.len() {
-            return Stored::Bad(Why::Many);
-        }
-        let Value::Is(value, next) = number(line, at + 1) else {
-            return Stored::Bad(Why::Number);
+    // The number that is left, and whether an option is on, which a last word 1 says.
+    pub fn number_and_option(mut self) -> Result<(u32, bool), Why> {
+        let value = self.number()?;
+        let is_on = match self.next() {
+            None => false,
+            Some(b"1") => true,
+            Some(_) => return Err(Why::Word),
         };
-        out[n] = value;
-        n += 1;
-        at = next;
+        self.end(Why::Word)?;
+        Ok((value, is_on))
     }
-    Stored::All(n)
+
+    // The numbers that are left, so many at most.
+    pub fn numbers(self, most: usize) -> Result<Vec<u32>, Why> {
+        let mut numbers = Vec::new(self.alloc);
+        for word in self {
+            if numbers.len() == most {
+                return Err(Why::Many);
+            }
+            numbers.push(number(word)?)?;
+        }
+        Ok(numbers)
+    }
+
+    // The next word as bytes, each a pair of digits: at least one.
+    pub fn pairs(&mut self) -> Result<Vec<u8>, Why> {
+        let word = self.next().ok_or(Why::Pattern)?;
+        if word.is_empty() {
+            return Err(Why::Pattern);
+        }
+        word.chunks(2)
+            .map(|digits| byte(digits).ok_or(Why::Pattern))
+            .try_collect(self.alloc)
+    }
 }
 
-// Stores numbers as bytes.
-pub fn bytes(numbers: &[u32], out: &mut [u8]) -> Stored {
-    let mut i = 0;
-    while i < numbers.len() {
-        if i >= out.len() {
-            return Stored::Bad(Why::Many);
-        }
-        let n = numbers[i];
-        if n > 0xff {
-            return Stored::Bad(Why::Byte);
-        }
-        out[i] = n as u8;
-        i += 1;
+impl<'a> Iterator for Words<'a> {
+    type Item = &'a [u8];
+
+    ghost remaining = { λ words. at_most (unwrap_or (option_map (λ rest. length rest.now + 1) words.rest) 0) };
+
+    fn next(&mut self) -> Option<&'a [u8]> {
+        let rest = self.rest?;
+        let Some(end) = rest.iter().position(|b| *b == b' ') else {
+            self.rest = None;
+            return Some(rest);
+        };
+        self.rest = Some(&rest[end + 1..]);
+        Some(&rest[..end])
     }
-    Stored::All(i)
 }
 
-// The byte that two digits make, above ff where they are none.
-fn pair(high: u8, low: u8) -> u32 {
-    let last = digit(low);
-    if last > 15 {
-        return 0x100;
+// The value of a hexadecimal digit in lower case.
+fn digit(b: u8) -> Option<u32>
+    ensures { IfSome result (λ d. d < 16) }
+{
+    match b {
+        b'0'..=b'9' => Some((b - b'0') as u32),
+        b'a'..=b'f' => Some((b - b'a') as u32 + 10),
+        _ => None,
     }
-    digit(high) * 16 + last
 }
 
-// How many bytes a word of pairs of digits has, where more than there is room for are one more than
-// that, and the place where it ends; or that none stands there.
-#[derive(Clone, Copy)]
-pub enum Paired {
-    Is(usize, usize),
-    No,
+// The value of a word: not of an empty one, one with another byte than a digit, or one above ffffffff.
+fn number(word: &[u8]) -> Result<u32, Why> {
+    if word.is_empty() {
+        return Err(Why::Number);
+    }
+    let mut value: u32 = 0;
+    for b in word {
+        let digit = digit(*b).ok_or(Why::Number)?;
+        value = value.checked_mul(16).ok_or(Why::Number)? | digit;
+    }
+    Ok(value)
 }
 
-// Stores the bytes of the word whose first digit is at index from, as far as there is room: not an
-// empty word, one with another byte than a digit, or one with an odd number of them.
-pub fn pairs(line: &[u8], from: usize, out: &mut [u8]) -> Paired {
-    let mut n = 0;
-    let mut i = from;
-    while i < line.len() {
-        if line[i] == b' ' {
-            break;
-        }
-        let b = pair(line[i], byte_at(line, i + 1));
-        if b > 0xff {
-            return Paired::No;
-        }
-        n = lines::push(out, n, b as u8);
-        i += 2;
-    }
-    if n == 0 {
-        return Paired::No;
-    }
-    Paired::Is(n, i)
+// The byte that two digits make.
+fn byte(digits: &[u8]) -> Option<u8> {
+    let [high, low] = digits else {
+        return None;
+    };
+    Some((digit(*high)? * 16 + digit(*low)?) as u8)
+}
+
+// Numbers as bytes.
+pub fn bytes(alloc: Global, numbers: &[u32]) -> Result<Vec<u8>, Why> {
+    numbers
+        .iter()
+        .map(|n| u8::try_from(*n).map_err(|_| Why::Byte))
+        .try_collect(alloc)
 }

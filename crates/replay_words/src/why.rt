@@ -1,0 +1,52 @@
+// Why a line is no operation.
+use std::alloc::{AllocError, AllocFailed};
+use std::error::Error;
+use std::fmt;
+use std::fmt::Display;
+
+#[derive(Clone, Copy, Debug, PartialEq, Eq)]
+pub enum Why {
+    Word,
+    Number,
+    Byte,
+    Many,
+    Long,
+    Room,
+    Options,
+    Pattern,
+    Held,
+    Memory,
+}
+
+// The whole answer: `? ` and a word.
+impl Display for Why {
+    fn fmt<W: fmt::Write>(&self, f: &mut fmt::Formatter<W>) -> fmt::Result {
+        let word = match self {
+            Why::Word => "word",
+            Why::Number => "number",
+            Why::Byte => "byte",
+            Why::Many => "many",
+            Why::Long => "long",
+            Why::Room => "room",
+            Why::Options => "options",
+            Why::Pattern => "pattern",
+            Why::Held => "held",
+            Why::Memory => "memory",
+        };
+        write!(f, "? {word}")
+    }
+}
+
+impl Error for Why {}
+
+impl From<AllocError> for Why {
+    fn from(_e: AllocError) -> Why {
+        Why::Memory
+    }
+}
+
+impl<T: Drop> From<AllocFailed<T>> for Why {
+    fn from(_e: AllocFailed<T>) -> Why {
+        Why::Memory
+    }
+}
