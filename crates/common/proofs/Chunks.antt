@@ -21,18 +21,19 @@ module _ (s : List ℕ) (at stop size : ℕ) (blocks : ChunksExact ℕ) (l : Lef
       let long : length block.now ≡ size = h.1.1 ∙ l.size_is in
       let joined : take (stop - at) (drop at s) ≡ block.now ++ left = sym l.rest ∙ h.1.0 in
       let fits : at + size ≤ stop = omega (arith, l.low, l.within, simp (length-take, length-drop, length-append) at (ap length joined)) in
-      let e : stop - at ≡ size + (stop - (at + size)) = omega arith in
-      (record {
-        low = fits;
-        within = l.within;
-        rest = sym (drop_at block.now left size long) ∙ rw (← joined, e, drop-take size (stop - (at + size)) (drop at s), drop-drop);
-        size_is = h.0 ∙ l.size_is;
-      },
-      λ P each x a b.
-        let same : get_or block.now (x - at) 0 ≡ get_or s x 0 =
+      let e : stop - at ≡ size + (stop - (at + size)) = omega arith in (
+        record {
+          low = fits;
+          within = l.within;
+          rest = sym (drop_at block.now left size long) ∙ rw (← joined, e, drop-take size (stop - (at + size)) (drop at s), drop-drop);
+          size_is = h.0 ∙ l.size_is;
+        },
+        λ P each x a b.
+            let same : get_or block.now (x - at) 0 ≡ get_or s x 0 =
             sym (get_or_append_left block.now left 0 (x - at) (omega arith))
             ∙ sym (ap (λ xs. get_or xs (x - at) 0) joined)
             ∙ get_or-take (stop - at) (drop at s) (x - at) 0 (omega arith)
             ∙ get_or-drop at s (x - at) 0
             ∙ ap (λ k. get_or s k 0) (omega arith) in
-        subst P same (each (x - at) (omega arith) (omega arith)))
+            subst P same (each (x - at) (omega arith) (omega arith)),
+      )
