@@ -7,14 +7,16 @@
 use mathlib.Core.Path.{◌≡◌, refl, sym, ap, ◌∙◌}
 use mathlib.Core.Bool.{Bool}
 use mathlib.Core.List.{List, [], ◌∷◌}
-use Prim.Native.Nat.{ℕ, ◌+◌, ◌-◌, ◌*◌, ◌/◌, ◌≤◌, ◌<◌}
+use Prim.Native.Nat.{ℕ, ◌+◌, ◌*◌, ◌/◌, ◌≤◌, ◌<◌}
 use native.Mathlib.Omega.{arith}
 use lib.ListN.{length, take, drop}
 use lib.Seq.{sets}
 use borrow.Author.Tests.{le-ltb}
 use Rattle.scalars.specs.Chars.{are_chars}
 use Rattle.page.specs.Page.{accepted}
-use Rattle.common.specs.Answers.{written_numbers}
+use Rattle.common.specs.Answers.{refusal_number, written_numbers}
+use Rattle.common.specs.declared.Refusal.{Refusal}
+use Rattle.common.proofs.Answers.{refusal_some}
 use Rattle.text_input.specs.declared.Options.{Options}
 use Rattle.text_input.specs.declared.TextInput.{TextInput}
 use Rattle.text_input.specs.declared.Scanned.{Scanned}
@@ -79,9 +81,10 @@ asked a =
     }
 
 module _ (a : AskedBytes) where
-  pub scan_refused : (a.no ≡ 0 → ⊥) → Answers a.queue (whole (asked a)) (record { answer = Err a.no; next = a.r }) a.queue
-  scan_refused h =
-      left_as_it_was a.queue (record { answer = Err a.no; next = a.r }) (whole (asked a)) a.bytes (refused_is (asked a) h)
+  pub scan_refused : (why : Refusal) → refusal_number why ≡ a.no → Answers a.queue (whole (asked a)) (record { answer = Err why; next = a.r }) a.queue
+  scan_refused why e =
+      left_as_it_was a.queue (record { answer = Err why; next = a.r }) (whole (asked a)) a.bytes
+      (rw e (refused_is (asked a) (λ z. refusal_some why (e ∙ z))))
 
   module _ (z : a.no ≡ 0) where
     pub few : a.r.count + length a.chunk / 4 ≤ max_count
@@ -126,8 +129,8 @@ module _ (r : TextInput) (eof : Bool) (queue : List ℕ) where
     unfolding finish_of
     places = ap (λ (x : Outcome). x.places) e
 
-    pub never_refused : (k : ℕ) → s.answer ≡ Err k → ⊥
-    never_refused k h = let g = rw h at listed in let z : ◌≡◌ {A = ℕ} 0 1 = cc in omega arith
+    pub never_refused : (why : Refusal) → s.answer ≡ Err why → ⊥
+    never_refused why h = let g = rw h at listed in cc
 
     module _ (n : ℕ) (h : s.answer ≡ Ok n) where
       count : n ≡ length (finish_chars r eof)

@@ -12,6 +12,8 @@ use mathlib.Core.Path.{◌≡◌, refl}
 use Rattle.check_char.specs.declared.BasicTextError.{BasicTextError}
 use Rattle.check_char.specs.declared.BasicTextError.TheVariants.{ColorEscapeSequence, ControlCode, DeprecatedFormatChar, Escape, BidiFormatChar, Interlinear, LanguageTag, LineSeparation, NonChar, ParaSeparation, UnneededBOM, OutOfBand, Omit, Beyyal, UnrecognizedEscape, Replacement}
 use Rattle.check_char.proofs.Back.{error_of}
+use Rattle.common.specs.Answers.{refusal_number}
+use Rattle.common.specs.declared.Refusal.{Refusal}
 use Rattle.text_input.specs.declared.Options.{Options}
 use Rattle.text_input.specs.Scan.{outcome}
 use Rattle.text_output.specs.Writer.{bytes_outcome}
@@ -106,9 +108,9 @@ pub reply_written : (n : ℕ) (next : TextInput) (places : List ℕ) →
     let r = reply_of (outcome (record { answer = Ok n; next = next }) places) in (r.refused ≡ 0) × (r.written ≡ n)
 reply_written n next places = (refl, refl)
 
-pub reply_refused : (k : ℕ) (next : TextInput) (places : List ℕ) →
-    let r = reply_of (outcome (record { answer = Err k; next = next }) places) in (r.refused ≡ k) × (r.written ≡ 0)
-reply_refused k next places = (refl, refl)
+pub reply_refused : (why : Refusal) (next : TextInput) (places : List ℕ) →
+    let r = reply_of (outcome (record { answer = Err why; next = next }) places) in (r.refused ≡ refusal_number why) × (r.written ≡ 0)
+reply_refused why next places = (refl, refl)
 
 abbrev replied : ℕ → Result ℕ WriteError → TextOutput → WriteReply
 replied used answer next = write_reply_of (bytes_outcome (record { used = used; answer = answer; next = next }) [])
@@ -128,12 +130,14 @@ module _ (used : ℕ) (next : TextOutput) where
   pub reply_handed : (k : ℕ) → let r = replied used (Ok k) next in (told r ≡ 0 ∷ 0 ∷ used ∷ k ∷ []) × (r.reason ≡ 0)
   reply_handed k = (refl, refl)
 
-  pub reply_quiet : (n : ℕ) → let r = replied used (Err (Refused n)) next in (told r ≡ n ∷ 0 ∷ used ∷ 0 ∷ []) × (why r ≡ nothing)
-  reply_quiet n = (refl, refl)
+  pub reply_quiet : (e : Refusal) → let r = replied used (Err (Refused e)) next in
+      (told r ≡ refusal_number e ∷ 0 ∷ used ∷ 0 ∷ []) × (why r ≡ nothing)
+  reply_quiet e = (refl, refl)
 
   -- "tell the caller to abandon"
-  pub reply_abandon : (n : ℕ) → let r = replied used (Err (Abandon n)) next in (told r ≡ n ∷ 1 ∷ used ∷ 0 ∷ []) × (why r ≡ nothing)
-  reply_abandon n = (refl, refl)
+  pub reply_abandon : (e : Refusal) → let r = replied used (Err (Abandon e)) next in
+      (told r ≡ refusal_number e ∷ 1 ∷ used ∷ 0 ∷ []) × (why r ≡ nothing)
+  reply_abandon e = (refl, refl)
 
   -- "4 .. with the reason as the place in `BasicTextError`"
   pub reply_unwritable : (e : BasicTextError) → let r = replied used (Err (Unwritable e)) next in

@@ -1,22 +1,33 @@
 -- Laws on bytes read as numbers.
+--     from_le, to_le    four bytes as a number, and back, as the library has them
 --     Bytes             each number of a list is a byte
 --     four_more         four more places for each number
 --     length_numbers    a number for every four bytes
 --     numbers_at        the number at a place, by its four bytes
---     numbers_cut       the numbers from a place on are those of a part of the bytes, and the numbers behind it
+--     numbers_drop      the numbers from a place on
+--     numbers_append    the numbers of two parts one after the other
 --     length_bytes      four bytes for every number
 --     bytes_append      the bytes of two lists one after the other
 --     with_filled       numbers stored in the first places are their bytes stored in the first places
 --     with_all          the numbers as they were are the bytes as they were
-use Prim.Native.Nat.{ℕ, zero, suc, ◌+◌, ◌-◌, ◌*◌, ◌/◌, ◌%◌, ◌≤◌, ◌<◌}
+use Prim.Native.Nat.{ℕ, zero, suc, ◌+◌, ◌*◌, ◌/◌, ◌%◌, ◌≤◌, ◌<◌}
 use mathlib.Core.Path.{◌≡◌, refl, ap, sym, ◌∙◌}
-use mathlib.Core.List.{List, [], ◌∷◌, ◌++◌}
+use mathlib.Core.List.{List, [], ◌∷◌, ◌++◌, append-nil}
+use mathlib.Core.Logic.{◌⊎◌, inl, inr}
 use native.Mathlib.Omega.{arith}
-use lib.ListN.{length, get_or, take, drop}
+use lib.ListN.{length, get_or, drop}
 use lib.Seq.{sets, length-sets}
+use mir.Syntax.{w32}
+use Rattle.std.specs.Int.{from_le_bytes, to_le_bytes}
 use Rattle.common.proofs.Lists.{sets_first}
-use Rattle.stretch.proofs.Parts.{cut}
 use Rattle.basic_text.specs.Exports.{number_of, numbers_of, bytes_of}
+
+-- a number and its four bytes, as the library has them
+pub from_le : (a b c d : ℕ) → from_le_bytes w32 (a ∷ b ∷ c ∷ d ∷ []) ≡ number_of a b c d
+from_le a b c d = omega arith
+
+pub to_le : (n : ℕ) → to_le_bytes w32 n ≡ bytes_of (n ∷ [])
+to_le n = refl
 
 abbrev pub Bytes : List ℕ → Type 0
 Bytes bytes = (i : ℕ) → get_or bytes i 0 < 256
@@ -53,7 +64,7 @@ numbers_at (a ∷ b ∷ c ∷ d ∷ rest) (suc i) h =
     ∙ sym (four_at_more a b c d rest (4 * i))
     ∙ ap (four_at (a ∷ b ∷ c ∷ d ∷ rest)) (sym (four_more i))
 
-numbers_drop : (i : ℕ) (bytes : List ℕ) → numbers_of (drop (4 * i) bytes) ≡ drop i (numbers_of bytes)
+pub numbers_drop : (i : ℕ) (bytes : List ℕ) → numbers_of (drop (4 * i) bytes) ≡ drop i (numbers_of bytes)
 numbers_drop zero bytes = refl
 numbers_drop (suc i) [] = rw (four_more i)
 numbers_drop (suc i) (a ∷ []) = rw (four_more i)
@@ -61,19 +72,15 @@ numbers_drop (suc i) (a ∷ b ∷ []) = rw (four_more i)
 numbers_drop (suc i) (a ∷ b ∷ c ∷ []) = rw (four_more i)
 numbers_drop (suc i) (a ∷ b ∷ c ∷ d ∷ rest) = rw (four_more i) (numbers_drop i rest)
 
-numbers_take : (n : ℕ) (bytes : List ℕ) → numbers_of (take (4 * n) bytes) ≡ take n (numbers_of bytes)
-numbers_take zero bytes = refl
-numbers_take (suc n) [] = rw (four_more n)
-numbers_take (suc n) (a ∷ []) = rw (four_more n)
-numbers_take (suc n) (a ∷ b ∷ []) = rw (four_more n)
-numbers_take (suc n) (a ∷ b ∷ c ∷ []) = rw (four_more n)
-numbers_take (suc n) (a ∷ b ∷ c ∷ d ∷ rest) = rw (four_more n) (ap (λ (l : List ℕ). number_of a b c d ∷ l) (numbers_take n rest))
-
-pub numbers_cut : (bytes : List ℕ) (i j : ℕ) → i ≤ j →
-    drop i (numbers_of bytes) ≡ numbers_of (take (4 * j - 4 * i) (drop (4 * i) bytes)) ++ drop j (numbers_of bytes)
-numbers_cut bytes i j on =
-    let e : 4 * j - 4 * i ≡ 4 * (j - i) = omega arith in
-    rw (e, numbers_take (j - i) (drop (4 * i) bytes), numbers_drop i bytes) (cut (numbers_of bytes) i j on)
+-- the numbers of two parts, where the first ends with a whole four or nothing is behind it
+pub numbers_append : (xs ys : List ℕ) → (length xs % 4 ≡ 0) ⊎ (ys ≡ []) → numbers_of (xs ++ ys) ≡ numbers_of xs ++ numbers_of ys
+numbers_append xs ys (inr e) = rw (e, append-nil, append-nil)
+numbers_append [] ys (inl h) = refl
+numbers_append (a ∷ []) ys (inl h) = absurd (omega arith)
+numbers_append (a ∷ b ∷ []) ys (inl h) = absurd (omega arith)
+numbers_append (a ∷ b ∷ c ∷ []) ys (inl h) = absurd (omega arith)
+numbers_append (a ∷ b ∷ c ∷ d ∷ xs) ys (inl h) =
+    ap (λ (l : List ℕ). number_of a b c d ∷ l) (numbers_append xs ys (inl (omega arith)))
 
 pub length_bytes : (ns : List ℕ) → length (bytes_of ns) ≡ 4 * length ns
 length_bytes [] = refl

@@ -2,7 +2,6 @@
 --     numbers_sets, tail_sets    the bytes of numbers, stored, are the numbers stored, and the bytes past the last whole four stay
 --     take_wide, take_fits      the first of some numbers
 --     moved                     what some steps stored in places of their own, moved behind k numbers, is what they store there
---     own_machine, own_at        the steps from a place of their own
 --     turn_few, finish_few      a turn stores at most 67 characters, and the end one
 --     with_tail                 a queue is its numbers and the bytes past the last whole four
 use Prim.Native.Nat.{ℕ, zero, suc, ◌+◌, ◌*◌, ◌≤◌, ◌<◌}
@@ -126,16 +125,3 @@ turn_few mode p m r c s = omega (arith, (turn_sound mode p c m r s).size, last_o
 
 pub finish_few : (mode : Mode) (m : Machine) (r : IsolateUnassigned) → sound m ≡ true → length (pushed (steps_of mode m [] (last_owed r))) ≤ 67
 finish_few mode m r s = omega (arith, (steps_stay mode (last_owed r) m [] s).size, last_owed_size r, held_most m s)
-
-first_place : (w : Place) (escape : List ℕ) → machine_at (at_place w 0) escape ≡ machine_at w escape
-unfolding machine_at at_place
-first_place w escape = refl
-
--- from a place of one's own
-module _ (w r : Place) (e : r ≡ at_place w 0) where
-  pub own_machine : (escape : List ℕ) → machine_at r escape ≡ machine_at w escape
-  own_machine escape = rw e (first_place w escape)
-
-  pub own_at : r.at ≡ 0
-  unfolding at_place
-  own_at = rw e refl

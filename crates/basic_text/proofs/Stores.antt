@@ -1,17 +1,24 @@
 -- Runs of stores.
+--     part_stored     a part that was written over, as its stores
 --     stored_first    what a call stored from the first place on is read back from there
 --     sets_bytes      the bytes of two lists of numbers, stored one after the other
 --     sets_next       one number's bytes after those of the numbers before it
 use Prim.Native.Nat.{ℕ, ◌+◌, ◌*◌, ◌≤◌, ◌<◌}
-use mathlib.Core.Path.{◌≡◌, sym, ap, ◌∙◌}
-use mathlib.Core.List.{List, [], ◌∷◌, ◌++◌}
+use mathlib.Core.Path.{◌≡◌, refl, sym, ap, ◌∙◌}
+use mathlib.Core.List.{List, [], ◌∷◌, ◌++◌, append_assoc}
 use native.Mathlib.Omega.{arith}
 use native.Mathlib.Numerals.{add-one}
 use lib.ListN.{length, get_or, take}
-use lib.Seq.{sets, length-sets, take-suc, length-take-le}
+use lib.Seq.{sets, length-sets, take-suc, length-take-le, drop-drop}
+use borrow.Rule.Slice.PartMut.{put_mid}
+use Rattle.std.proofs.lemmas.List.Edits.{sets-eq}
 use Rattle.common.proofs.Lists.{sets_append, take_first}
 use Rattle.basic_text.specs.Exports.{bytes_of}
 use Rattle.basic_text.proofs.Laws.{bytes_append, length_bytes}
+
+-- a part that was written over, as its stores
+pub part_stored : (l xs ys : List ℕ) (i k : ℕ) → xs ≡ ys → length ys ≡ k → i + k ≤ length l → put_mid i k l xs ≡ sets l i ys
+part_stored l xs ys i k e f h = rw (e, sets-eq ys l i (omega arith), f, ← drop-drop k i l, append_assoc) refl
 
 -- l were the places, and `after` are the places after the call, which answered n
 pub stored_first : (out l after : List ℕ) (n : ℕ) → n ≡ length out → length out ≤ length l → after ≡ sets l 0 out →

@@ -16,20 +16,21 @@ mod writing;
 ghost use Rattle.std.specs.Prelude.{◌≡◌, ◌≤◌, length, take};
 ghost use Rattle.std.proofs.lemmas.List.Edits.{sets};
 ghost use Rattle.text_input.specs.Scan.{outcome, scan_of, finish_of};
+ghost use Rattle.text_output.specs.Writer.{bytes_outcome};
 ghost use Rattle.text_output.specs.Write.{write_of};
 ghost use Rattle.basic_text_numbers.specs.Numbers.{flag};
 ghost use Rattle.basic_text.specs.Exports.{numbers_of, bytes_of, page_of, record_of, options_of, reply_of, writer_of, write_reply_of};
 ghost use Rattle.basic_text.specs.Inner.{longest_page, fitting};
 
 use basic_text_numbers::flag_of;
-use common::{Answer, NO_ROOM};
+use common::Refusal;
 use numbers::{hold_chars, read_numbers, write_numbers};
 use page::is_accepted;
-use plain::{options_of, record_of, reply_of};
-use plain_writer::{write_reply_of, writer_of};
+use plain::options_of;
 use run::{run, skips};
 use text_input::{Options, Scanned, TextInput};
 use text_input_parts::refusals::refusal;
+use text_output::{TextOutput, WrittenBytes};
 use writing::write;
 
 // The scanner's record. A state's number past the last is read as 0, and a flag is false at 0 alone.
@@ -90,29 +91,16 @@ const LONGEST: usize = 8194;
 const SHORT: usize = 2048;
 
 // Reads a page into the first places of all, and answers how many numbers it has: none for one that is wrong by its length.
-// Inner: asks that it is no longer than the longest, and for room.
-fn read_fitting(page: &[u8], all: &mut [u32]) -> usize
-    requires longest { length (numbers_of page.now) ≤ longest_page }
-    requires room { length (numbers_of page.now) ≤ length all.old }
-    ensures within { result ≤ length (numbers_of page.now) }
+// Inner: asks for room.
+fn read_page(page: &[u8], all: &mut [u32]) -> usize
+    requires { length (fitting (page_of page.now)) ≤ length all.old }
+    ensures within { result ≤ length all.old }
     ensures places { take result all.new ≡ fitting (page_of page.now) }
 {
-    if page.len() % 4 == 0 {
+    let n = page.len() / 4;
+    if page.len() % 4 == 0 && n <= LONGEST {
         read_numbers(page, all);
-        return page.len() / 4;
-    }
-    0
-}
-
-// Reads a page into the first places of all, and answers how many numbers it has: none for one that is wrong by its length.
-// Inner: asks for room for the longest page.
-fn read_page(page: &[u8], all: &mut [u32]) -> usize
-    requires { longest_page ≤ length all.old }
-    ensures upper_bound { result ≤ longest_page }
-    ensures all_after { take result all.new ≡ fitting (page_of page.now) }
-{
-    if page.len() / 4 <= LONGEST {
-        return read_fitting(page, all);
+        return n;
     }
     0
 }
@@ -125,34 +113,52 @@ fn scan(r: TextInput, page: &[u32], options: Options, chunk: &[u8], queue: &mut 
         ≡ sets queue.old 0 (bytes_of (scan_of r page.now options (numbers_of chunk.now) (numbers_of queue.old)).places) }
 {
     let n = chunk.len() / 4;
-    let no = refusal(
+    if let Err(why) = refusal(
         r.count,
         is_accepted(page),
         hold_chars(chunk),
         n,
         queue.len() / 4,
-    );
-    if no == 0 {
-        let from = skips(r, chunk);
-        let opened = r.open(n as u32);
-        let ran = run(opened, page, options, chunk, from, queue);
-        let next = ran.next;
-        Scanned {
-            answer: Answer::Written(ran.written),
-            next,
-        }
-    } else {
-        Scanned {
-            answer: Answer::Refused(no),
+    ) {
+        return Scanned {
+            answer: Err(why),
             next: r,
-        }
+        };
     }
+    let from = skips(r, chunk);
+    let ran = run(r.open(n as u32), page, options, chunk, from, queue);
+    Scanned {
+        answer: Ok(ran.written),
+        next: ran.next,
+    }
+}
+
+// The scan by a page that is read into N places. Inner: asks for enough, and for no more than the longest page needs.
+#[tactic(auto, using(crate::proofs::Pages::scan_fitting))]
+fn scan_by<const N: usize>(
+    r: TextInput,
+    page: &[u8],
+    options: Options,
+    chunk: &[u8],
+    queue: &mut [u8],
+) -> Scanned
+    requires enough { length (fitting (page_of page.now)) ≤ N }
+    requires few { N ≤ longest_page }
+    ensures queue_value { outcome result (scan_of r (page_of page.now) options (numbers_of chunk.now) (numbers_of queue.old)).places
+        ≡ scan_of r (page_of page.now) options (numbers_of chunk.now) (numbers_of queue.old) }
+    ensures queue_after { queue.new
+        ≡ sets queue.old 0 (bytes_of (scan_of r (page_of page.now) options (numbers_of chunk.now) (numbers_of queue.old)).places) }
+{
+    let mut numbers = [0u32; N];
+    let n = read_page(page, &mut numbers);
+    scan(r, &numbers[..n], options, chunk, queue)
 }
 
 // "'exported on numbers and byte slices for the Rust harness': extern 'C' scan, finish and byte write over numbers and byte slices,
 // called by the differential tests."
 // A chunk comes in. Page, chunk and queue are lent as bytes; the cleaned characters go to the queue's first places. Total: refuses as
 // `TextInput::scan`.
+#[tactic(auto, using(crate::proofs::Pages::fitting_few))]
 #[unsafe(no_mangle)]
 pub extern "C" fn basic_text_scan(
     record: Record,
@@ -167,18 +173,12 @@ pub extern "C" fn basic_text_scan(
         ≡ sets queue.old 0
         (bytes_of (scan_of (record_of «record») (page_of page.now) (options_of options) (numbers_of chunk.now) (numbers_of queue.old)).places) }
 {
-    let r = record_of(record);
+    let r = TextInput::from(record);
     let o = options_of(options);
     if page.len() / 4 <= SHORT {
-        let mut few = [0u32; SHORT];
-        let n = read_fitting(page, &mut few);
-        let scanned = scan(r, &few[0..n], o, chunk, queue);
-        return reply_of(scanned);
+        return Reply::from(scan_by::<SHORT>(r, page, o, chunk, queue));
     }
-    let mut all = [0u32; LONGEST];
-    let n = read_page(page, &mut all);
-    let scanned = scan(r, &all[0..n], o, chunk, queue);
-    reply_of(scanned)
+    Reply::from(scan_by::<LONGEST>(r, page, o, chunk, queue))
 }
 
 // The finish. Total: what it appends is stored as numbers first, since that is at most two.
@@ -188,20 +188,16 @@ fn finish(r: TextInput, eof: bool, queue: &mut [u8]) -> Scanned
 {
     if queue.len() / 4 < 2 {
         return Scanned {
-            answer: Answer::Refused(NO_ROOM),
+            answer: Err(Refusal::NoRoom),
             next: r,
         };
     }
     let mut two = [0u32; 2];
     let finished = r.finish(eof, &mut two);
-    let answer = finished.answer;
-    match answer {
-        Answer::Written(n) => {
-            write_numbers(queue, 0, &two, n);
-            finished
-        }
-        Answer::Refused(_) => finished,
+    if let Ok(n) = finished.answer {
+        write_numbers(queue, 0, &two, n);
     }
+    finished
 }
 
 // The stream is pushed, or it ends. The queue is lent as bytes; what is pending goes to its first places, with what ends a text. Total:
@@ -211,14 +207,31 @@ pub extern "C" fn basic_text_finish(record: Record, eof: u32, queue: &mut [u8]) 
     ensures reply { result ≡ reply_of (finish_of (record_of «record») (flag eof) (numbers_of queue.old)) }
     ensures places { queue.new ≡ sets queue.old 0 (bytes_of (finish_of (record_of «record») (flag eof) (numbers_of queue.old)).places) }
 {
-    let r = record_of(record);
-    let end = flag_of(eof);
-    let finished = finish(r, end, queue);
-    reply_of(finished)
+    Reply::from(finish(TextInput::from(record), flag_of(eof), queue))
+}
+
+// The write by a page that is read into N places. Inner, as `scan_by`.
+#[tactic(auto, using(crate::proofs::Pages::write_fitting))]
+fn write_by<const N: usize>(
+    w: TextOutput,
+    page: &[u8],
+    bytes: &[u8],
+    queue: &mut [u8],
+) -> WrittenBytes
+    requires enough { length (fitting (page_of page.now)) ≤ N }
+    requires few { N ≤ longest_page }
+    ensures outcome { bytes_outcome result (numbers_of queue.new) ≡ write_of w (page_of page.now) bytes.now (numbers_of queue.old) }
+    ensures places { queue.new
+        ≡ sets queue.old 0 (bytes_of (write_of w (page_of page.now) bytes.now (numbers_of queue.old)).outcome.places) }
+{
+    let mut numbers = [0u32; N];
+    let n = read_page(page, &mut numbers);
+    write(w, &numbers[..n], bytes, queue)
 }
 
 // Bytes are written. Page, bytes and queue are lent as bytes; the kept characters stand in the queue's first places, those of the write
 // go behind them, and the first places are handed out. Total: refuses as `text_output_write::write`.
+#[tactic(auto, using(crate::proofs::Pages::fitting_few))]
 #[unsafe(no_mangle)]
 pub extern "C" fn basic_text_write(
     writer: Writer,
@@ -231,15 +244,9 @@ pub extern "C" fn basic_text_write(
         ≡ sets queue.old 0
         (bytes_of (write_of (writer_of writer) (page_of page.now) bytes.now (numbers_of queue.old)).outcome.places) }
 {
-    let w = writer_of(writer);
+    let w = TextOutput::from(writer);
     if page.len() / 4 <= SHORT {
-        let mut few = [0u32; SHORT];
-        let n = read_fitting(page, &mut few);
-        let written = write(w, &few[0..n], bytes, queue);
-        return write_reply_of(written);
+        return WriteReply::from(write_by::<SHORT>(w, page, bytes, queue));
     }
-    let mut all = [0u32; LONGEST];
-    let n = read_page(page, &mut all);
-    let written = write(w, &all[0..n], bytes, queue);
-    write_reply_of(written)
+    WriteReply::from(write_by::<LONGEST>(w, page, bytes, queue))
 }

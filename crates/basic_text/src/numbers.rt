@@ -6,20 +6,13 @@ ghost use Rattle.basic_text.specs.Exports.{number_of, numbers_of, bytes_of};
 
 use scalars::is_char;
 
-// Four bytes as a number. Total.
-fn joined(a: u8, b: u8, c: u8, d: u8) -> u32
-    ensures { result ≡ number_of a b c d }
-{
-    a as u32 + 256 * (b as u32) + 65536 * (c as u32) + 16777216 * (d as u32)
-}
-
 // The number at place i. Inner: asks that it is there.
 pub fn read_number(bytes: &[u8], i: usize) -> u32
     requires { 4 * (i + 1) ≤ length bytes.now }
     ensures { result ≡ get_or (numbers_of bytes.now) i 0 }
 {
     let at = 4 * i;
-    joined(bytes[at], bytes[at + 1], bytes[at + 2], bytes[at + 3])
+    u32::from_le_bytes([bytes[at], bytes[at + 1], bytes[at + 2], bytes[at + 3]])
 }
 
 // Stores a number at place i. Inner: asks for room.
@@ -28,46 +21,40 @@ fn write_number(bytes: &mut [u8], i: usize, n: u32)
     ensures { bytes.new ≡ sets bytes.old (4 * i) (bytes_of (n ∷ [])) }
 {
     let at = 4 * i;
-    bytes[at] = (n % 256) as u8;
-    bytes[at + 1] = (n / 256 % 256) as u8;
-    bytes[at + 2] = (n / 65536 % 256) as u8;
-    bytes[at + 3] = (n / 16777216 % 256) as u8;
+    bytes[at..at + 4].copy_from_slice(&n.to_le_bytes());
 }
 
 // Reads all numbers into the first places of out. Inner: asks for room.
+#[tactic(auto, using(crate::proofs::Laws::length_numbers))]
 pub fn read_numbers(bytes: &[u8], out: &mut [u32])
     requires { length (numbers_of bytes.now) ≤ length out.old }
     ensures { out.new ≡ sets out.old 0 (numbers_of bytes.now) }
 {
-    let mut i = 0;
-    while i < bytes.len() / 4 {
+    for i in 0..bytes.len() / 4 {
         out[i] = read_number(bytes, i);
-        i += 1;
     }
 }
 
 // Stores the first n of some numbers from place k on. Inner: asks for room.
+#[tactic(auto, using(crate::proofs::Stores::sets_next))]
 pub fn write_numbers(bytes: &mut [u8], k: usize, from: &[u32], n: usize)
     requires n_in_bounds { n ≤ length from.now }
     requires n_in_bounds_2 { 4 * (k + n) ≤ length bytes.old }
     ensures { bytes.new ≡ sets bytes.old (4 * k) (bytes_of (take n from.now)) }
 {
-    let mut i = 0;
-    while i < n {
+    for i in 0..n {
         write_number(bytes, k + i, from[i]);
-        i += 1;
     }
 }
 
-// Whether every number is a character. Total.
+// Whether every number is a character. Total. The loop has no early exit, so that it can be vectorised.
+#[tactic(auto, using(crate::proofs::Laws::length_numbers))]
 pub fn hold_chars(bytes: &[u8]) -> bool
     ensures { result ≡ are_chars (numbers_of bytes.now) }
 {
     let mut good = true;
-    let mut i = 0;
-    while i < bytes.len() / 4 {
-        good = good & is_char(read_number(bytes, i));
-        i += 1;
+    for i in 0..bytes.len() / 4 {
+        good &= is_char(read_number(bytes, i));
     }
     good
 }

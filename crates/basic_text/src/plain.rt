@@ -5,23 +5,23 @@ ghost use Rattle.basic_text.specs.Exports.{record_of, options_of, record_numbers
 
 use super::{Record, Reply};
 use basic_text_numbers::{flag_number, flag_of, state_number, state_of};
-use common::Answer;
 use text_input::{Options, Scanned, TextInput};
 
-pub fn record_of(r: Record) -> TextInput
-    ensures { result ≡ record_of r }
-{
-    let state = state_of(r.state);
-    TextInput {
-        state,
-        expect_starter: flag_of(r.expect_starter),
-        at_start: flag_of(r.at_start),
-        last: r.last,
-        count: r.count,
+impl From<Record> for TextInput {
+    ghost from_gives = { λ r given. given ≡ record_of r };
+
+    fn from(r: Record) -> Self {
+        TextInput {
+            state: state_of(r.state),
+            expect_starter: flag_of(r.expect_starter),
+            at_start: flag_of(r.at_start),
+            last: r.last,
+            count: r.count,
+        }
     }
 }
 
-// By the three lowest bits.
+// By the three lowest bits. No impl of From: neither type is of this crate.
 pub fn options_of(n: u32) -> Options
     ensures { result ≡ options_of n }
 {
@@ -32,35 +32,36 @@ pub fn options_of(n: u32) -> Options
     }
 }
 
-fn record_numbers(r: TextInput) -> Record
-    ensures { result ≡ record_numbers r }
-{
-    let state = r.state;
-    Record {
-        state: state_number(state),
-        expect_starter: flag_number(r.expect_starter),
-        at_start: flag_number(r.at_start),
-        last: r.last,
-        count: r.count,
+impl From<TextInput> for Record {
+    ghost from_gives = { λ r numbers. numbers ≡ record_numbers r };
+
+    fn from(r: TextInput) -> Self {
+        Record {
+            state: state_number(r.state),
+            expect_starter: flag_number(r.expect_starter),
+            at_start: flag_number(r.at_start),
+            last: r.last,
+            count: r.count,
+        }
     }
 }
 
-pub fn reply_of(s: Scanned) -> Reply
-    ensures { result ≡ reply_of (outcome s []) }
-{
-    let next = s.next;
-    let record = record_numbers(next);
-    let answer = s.answer;
-    match answer {
-        Answer::Written(n) => Reply {
-            refused: 0,
-            written: n,
-            record,
-        },
-        Answer::Refused(k) => Reply {
-            refused: k,
-            written: 0,
-            record,
-        },
+impl From<Scanned> for Reply {
+    ghost from_gives = { λ s reply. reply ≡ reply_of (outcome s []) };
+
+    fn from(s: Scanned) -> Self {
+        let record = Record::from(s.next);
+        match s.answer {
+            Ok(written) => Reply {
+                refused: 0,
+                written,
+                record,
+            },
+            Err(why) => Reply {
+                refused: why.number(),
+                written: 0,
+                record,
+            },
+        }
     }
 }

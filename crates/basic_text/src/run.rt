@@ -11,26 +11,18 @@ use super::numbers::{read_number, read_numbers, write_numbers};
 use scalars::BOM;
 use text_input::{Options, Ran, TextInput};
 
+// The numbers of a piece at most.
+const PIECE: usize = 256;
+
 // How many characters of the chunk are dropped: a leading FEFF, where no chunk was accepted before. Total.
 pub fn skips(r: TextInput, chunk: &[u8]) -> usize
     ensures { result ≡ skipped r (numbers_of chunk.now) }
 {
-    if r.at_start {
-        if 4 <= chunk.len() {
-            if read_number(chunk, 0) == BOM {
-                return 1;
-            }
-        }
+    if r.at_start && 4 <= chunk.len() && read_number(chunk, 0) == BOM {
+        1
+    } else {
+        0
     }
-    0
-}
-
-// The end of the next piece, of at most 256 numbers, where n are there and those from place i on are left. Inner: asks for one.
-fn piece_end(i: usize, n: usize) -> usize
-    requires { i < n }
-    ensures { (i < result) × ((result ≤ n) × (result ≤ i + 256)) }
-{
-    if n - i < 256 { n } else { i + 256 }
 }
 
 // The characters of a piece, and their output stored from place k on. They are read into numbers, and their output is written to
@@ -54,18 +46,16 @@ fn piece(
 {
     read_numbers(bytes, numbers);
     let m = bytes.len() / 4;
-    let ran = r.run(page, options, &numbers[0..m], places);
-    let n = ran.written;
-    write_numbers(queue, k, places, n);
-    let next = ran.next;
+    let ran = r.run(page, options, &numbers[..m], places);
+    write_numbers(queue, k, places, ran.written);
     Ran {
-        written: k + n,
-        next,
+        written: k + ran.written,
+        next: ran.next,
     }
 }
 
-// The characters of the chunk from a place on, stored from the first place on. Inner: asks for an accepted page and for room. What
-// is left of the run, from the record r on, goes to the places from k on.
+// The characters of the chunk from a place on, stored from the first place on. Inner: asks for an accepted page and for room.
+#[tactic(auto, using(crate::proofs::Laws::length_numbers))]
 pub fn run(
     first: TextInput,
     page: &[u32],
@@ -80,23 +70,23 @@ pub fn run(
     ensures ran { result ≡ ran_by 0 (run_of page.now options first (drop from (numbers_of chunk.now))) }
     ensures places { queue.new ≡ sets queue.old 0 (bytes_of (outs page.now options first (drop from (numbers_of chunk.now)))) }
 {
-    let mut numbers = [0u32; 256];
-    let mut places = [0u32; 769];
-    let mut r = first;
-    let mut k = 0;
-    let mut i = from;
-    while i < chunk.len() / 4 {
-        let end = piece_end(i, chunk.len() / 4);
-        let a = 4 * i;
-        let e = 4 * end;
-        let bytes = &chunk[a..e];
-        let ran = piece(r, page, options, bytes, &mut numbers, &mut places, queue, k);
-        k = ran.written;
-        r = ran.next;
-        i = end;
+    let mut numbers = [0u32; PIECE];
+    let mut places = [0u32; 3 * PIECE + 1];
+    let mut ran = Ran {
+        written: 0,
+        next: first,
+    };
+    for bytes in chunk[4 * from..].chunks(4 * PIECE) {
+        ran = piece(
+            ran.next,
+            page,
+            options,
+            bytes,
+            &mut numbers,
+            &mut places,
+            queue,
+            ran.written,
+        );
     }
-    Ran {
-        written: k,
-        next: r,
-    }
+    ran
 }

@@ -10,15 +10,15 @@ ghost use Rattle.text_output.specs.Step.{steps_of};
 ghost use Rattle.text_output.specs.Write.{run_in, write_of};
 ghost use Rattle.text_output_write.specs.Inner.{machine_at, pushed, stored, progress, turn_of, isolator_after};
 ghost use Rattle.basic_text.specs.Exports.{numbers_of, bytes_of};
-ghost use Rattle.basic_text.specs.Inner.{tail, at_place, place_in, behind_of};
+ghost use Rattle.basic_text.specs.Inner.{tail, place_in, behind_of};
 
 use super::numbers::{read_number, write_numbers};
 use isolate_unassigned::IsolateUnassigned;
-use scalars::{Utf8Step, utf8_step, valid_prefix};
+use scalars::{utf8_step, valid_prefix};
 use text_output::{Mode, TextOutput, WrittenBytes};
 use text_output_write::{
-    Place, Pushed, Turned, bytes_refusal, end_write, finish, place_of, refused_write, taking, turn,
-    write_refusal,
+    Place, Stopped, Turned, bytes_refusal, end_write, finish, place_of, refused_write, taking,
+    turn, write_refusal,
 };
 
 // Stores the first n of some numbers from place k on. Inner: asks for room.
@@ -31,20 +31,14 @@ fn store_numbers(queue: &mut [u8], k: usize, from: &[u32], n: usize)
     write_numbers(queue, k, from, n);
 }
 
-// The place, moved.
-fn at_place(w: Place, at: usize) -> Place
-    ensures { result ≡ at_place w at }
-{
-    let state = w.state;
-    Place {
-        state,
-        held: w.held,
-        at,
-    }
-}
-
 // What some steps stored in few, moved to the queue from place k on. Inner: asks for room.
-fn move_behind(pushed: Pushed, k: usize, few: &[u32], queue: &mut [u8]) -> Pushed
+#[tactic(auto, using(crate::proofs::Laws::length_numbers), unfolding(crate::specs::Inner::at_place))]
+fn move_behind(
+    pushed: Result<Place, Stopped>,
+    k: usize,
+    few: &[u32],
+    queue: &mut [u8],
+) -> Result<Place, Stopped>
     requires few { (place_in pushed).at ≤ length few.now }
     requires room { k + (place_in pushed).at ≤ length (numbers_of queue.old) }
     ensures moved { result ≡ behind_of k pushed }
@@ -52,13 +46,19 @@ fn move_behind(pushed: Pushed, k: usize, few: &[u32], queue: &mut [u8]) -> Pushe
     ensures tail { tail queue.new ≡ tail queue.old }
 {
     match pushed {
-        Pushed::On(w) => {
+        Ok(w) => {
             store_numbers(queue, k, few, w.at);
-            Pushed::On(at_place(w, k + w.at))
+            Ok(Place { at: k + w.at, ..w })
         }
-        Pushed::Stopped(w, stop) => {
-            store_numbers(queue, k, few, w.at);
-            Pushed::Stopped(at_place(w, k + w.at), stop)
+        Err(Stopped { place, stop }) => {
+            store_numbers(queue, k, few, place.at);
+            Err(Stopped {
+                place: Place {
+                    at: k + place.at,
+                    ..place
+                },
+                stop,
+            })
         }
     }
 }
@@ -82,12 +82,18 @@ fn turn_bytes(
     ensures tail { tail queue.new ≡ tail queue.old }
 {
     let mut few = [0u32; 67];
-    let turned = turn(page, mode, at_place(w, 0), isolator, c, escape, &mut few);
-    let pushed = turned.pushed;
-    let after = turned.isolator;
+    let turned = turn(
+        page,
+        mode,
+        Place { at: 0, ..w },
+        isolator,
+        c,
+        escape,
+        &mut few,
+    );
     Turned {
-        pushed: move_behind(pushed, w.at, &few, queue),
-        isolator: after,
+        pushed: move_behind(turned.pushed, w.at, &few, queue),
+        isolator: turned.isolator,
     }
 }
 
@@ -98,7 +104,7 @@ fn finish_bytes(
     isolator: IsolateUnassigned,
     escape: &mut [u32; 64],
     queue: &mut [u8],
-) -> Pushed
+) -> Result<Place, Stopped>
     requires sound { sound (machine_at w escape.old) ≡ true }
     requires room { w.at + length (pushed (steps_of mode (machine_at w escape.old) [] (last_owed isolator))) ≤ length (numbers_of queue.old) }
     ensures steps { progress result escape.new (numbers_of queue.new)
@@ -106,7 +112,7 @@ fn finish_bytes(
     ensures tail { tail queue.new ≡ tail queue.old }
 {
     let mut few = [0u32; 67];
-    let pushed = finish(mode, at_place(w, 0), isolator, escape, &mut few);
+    let pushed = finish(mode, Place { at: 0, ..w }, isolator, escape, &mut few);
     move_behind(pushed, w.at, &few, queue)
 }
 
@@ -119,7 +125,7 @@ fn run_write(
     bytes: &[u8],
     escape: &mut [u32; 64],
     queue: &mut [u8],
-) -> Pushed
+) -> Result<Place, Stopped>
     requires page { accepted page.now ≡ true }
     requires sound { sound (machine_at start escape.old) ≡ true }
     requires room { start.at + length (pushed (run_in mode page.now (machine_at start escape.old) (chars_of bytes.now)))
@@ -131,23 +137,12 @@ fn run_write(
     let mut w = start;
     let mut isolator = IsolateUnassigned::new();
     let mut place = 0;
-    loop {
-        let Utf8Step::Char(c, next_place) = utf8_step(bytes, place) else {
-            break;
-        };
+    // No index: the step answers the place after a character.
+    while let Some((c, next_place)) = utf8_step(bytes, place) {
         place = next_place;
         let turned = turn_bytes(page, mode, w, isolator, c, escape, queue);
-        let pushed = turned.pushed;
-        let after = turned.isolator;
-        match pushed {
-            Pushed::On(next) => {
-                w = next;
-                isolator = after;
-            }
-            Pushed::Stopped(_, _) => {
-                return pushed;
-            }
-        }
+        w = turned.pushed?;
+        isolator = turned.isolator;
     }
     finish_bytes(mode, w, isolator, escape, queue)
 }
@@ -170,9 +165,8 @@ pub fn write(w: TextOutput, page: &[u32], bytes: &[u8], queue: &mut [u8]) -> Wri
 {
     let prefix = valid_prefix(bytes);
     let values = bytes_refusal(bytes.len(), prefix.chars);
-    let refusal = write_refusal(w, page, values, prefix.chars, queue.len() / 4);
-    if refusal != 0 {
-        return taking(prefix.bytes, refused_write(w, refusal));
+    if let Err(why) = write_refusal(w, page, values, prefix.chars, queue.len() / 4) {
+        return taking(prefix.bytes, refused_write(w, why));
     }
     let mode = w.mode;
     let mut escape = w.escape_sequence;

@@ -17,11 +17,11 @@ pub use writer::{mode_number, mode_of, writer_state_number, writer_state_of};
 pub fn flag_of(n: u32) -> bool
     ensures { result ≡ flag n }
 {
-    !(n == 0)
+    n != 0
 }
 
 pub fn flag_number(b: bool) -> u32
     ensures { result ≡ flag_number b }
 {
-    if b { 1 } else { 0 }
+    u32::from(b)
 }

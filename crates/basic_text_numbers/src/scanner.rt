@@ -8,24 +8,16 @@ use text_input::State;
 pub fn state_of(n: u32) -> State
     ensures { result ≡ state_of n }
 {
-    if n == 1 {
-        State::Ground(true)
-    } else if n == 2 {
-        State::Cr
-    } else if n == 3 {
-        State::Ff
-    } else if n == 4 {
-        State::Esc
-    } else if n == 5 {
-        State::CsiStart
-    } else if n == 6 {
-        State::Csi
-    } else if n == 7 {
-        State::Osc
-    } else if n == 8 {
-        State::Linux
-    } else {
-        State::Ground(false)
+    match n {
+        1 => State::Ground(true),
+        2 => State::Cr,
+        3 => State::Ff,
+        4 => State::Esc,
+        5 => State::CsiStart,
+        6 => State::Csi,
+        7 => State::Osc,
+        8 => State::Linux,
+        _ => State::Ground(false),
     }
 }
 

@@ -7,12 +7,10 @@ use text_output::{Ground, Mode, State};
 pub fn mode_of(n: u32) -> Mode
     ensures { result ≡ mode_of n }
 {
-    if n == 1 {
-        Mode::Crlf
-    } else if n == 2 {
-        Mode::Color
-    } else {
-        Mode::Plain
+    match n {
+        1 => Mode::Crlf,
+        2 => Mode::Color,
+        _ => Mode::Plain,
     }
 }
 
@@ -29,16 +27,12 @@ pub fn mode_number(mode: Mode) -> u32
 pub fn writer_state_of(n: u32) -> State
     ensures { result ≡ writer_state_of n }
 {
-    if n == 1 {
-        State::Ground(Ground::ZwjOrPrepend)
-    } else if n == 2 {
-        State::Ground(Ground::Other)
-    } else if n == 3 {
-        State::Esc
-    } else if n == 4 {
-        State::Csi
-    } else {
-        State::Ground(Ground::Newline)
+    match n {
+        1 => State::Ground(Ground::ZwjOrPrepend),
+        2 => State::Ground(Ground::Other),
+        3 => State::Esc,
+        4 => State::Csi,
+        _ => State::Ground(Ground::Newline),
     }
 }
 
@@ -46,11 +40,9 @@ pub fn writer_state_number(state: State) -> u32
     ensures { result ≡ writer_state_number state }
 {
     match state {
-        State::Ground(ground) => match ground {
-            Ground::Newline => 0,
-            Ground::ZwjOrPrepend => 1,
-            Ground::Other => 2,
-        },
+        State::Ground(Ground::Newline) => 0,
+        State::Ground(Ground::ZwjOrPrepend) => 1,
+        State::Ground(Ground::Other) => 2,
         State::Esc => 3,
         State::Csi => 4,
     }

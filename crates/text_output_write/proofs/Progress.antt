@@ -14,7 +14,6 @@ use Rattle.common.proofs.Kit.{never}
 use Rattle.common.proofs.Lists.{sets_append}
 use Rattle.text_output_write.specs.declared.store.Place.{Place}
 use Rattle.text_output_write.specs.declared.store.Stopped.{Stopped}
-use Rattle.text_output_write.specs.declared.store.Stop.{Stop}
 use Rattle.text_output.specs.Writer.{Machine, sound}
 use Rattle.text_output.specs.Step.{Stepped, goes, stops, behind, and_then}
 use Rattle.text_output_write.specs.Inner.{Progress, pushed, stored, progress, machine_at}

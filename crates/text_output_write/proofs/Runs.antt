@@ -1,8 +1,8 @@
 -- The way of a write's loop, over characters, over bytes and into bytes. Idea: at its head, what is left of the write, stored from the
 -- place at hand on, leads to the end that the whole leads to. What the loop goes over is known by what is left of it at a place.
---     Asks, Going                   what a write asks for; at the head of the loop
+--     Going                         at the head of the loop
 --     begin, again, stopped, ended  before the first turn, after one that goes on, after one that stops, after the last
---     turn_asks, finish_asks        what the turn asks for, and the 34F that is owed at the end
+--     turn_room, finish_room        the room that the turn asks for, and the 34F that is owed at the end
 --     LeftOn                        the characters that are left, where one is taken
 --     Chars, chars_on, chars_end    those left at a place of characters
 --     Bytes, bytes_begin, bytes_on, bytes_end    .. of bytes
@@ -38,12 +38,6 @@ pub record LeftOn (L : ℕ → List ℕ → Type 0) (c next : ℕ) (cs : List �
   pub left : L next behind
 
 -- L: what is left of the whole at a place
-abbrev pub Asks : List ℕ → Mode → Place → List ℕ → List ℕ → List ℕ → Type 0
-Asks p mode start escape out cs =
-    (accepted p ≡ true)
-    × ((sound (machine_at start escape) ≡ true)
-    × (start.at + length (pushed (run_in mode p (machine_at start escape) cs)) ≤ length out))
-
 pub record Going (L : ℕ → List ℕ → Type 0) (p : List ℕ) (mode : Mode) (start : Place) (escape₀ out₀ cs₀ : List ℕ) (w : Place)
     (r : IsolateUnassigned) (i : ℕ) (escape out : List ℕ) : Type 0 where
   pub is_sound : sound (machine_at w escape) ≡ true
@@ -55,10 +49,9 @@ pub record Going (L : ℕ → List ℕ → Type 0) (p : List ℕ) (mode : Mode) 
       ≡ stored start.at out₀ (run_in mode p (machine_at start escape₀) cs₀)
 
 module _ {L : ℕ → List ℕ → Type 0} {p : List ℕ} {mode : Mode} {start : Place} {escape₀ out₀ cs₀ : List ℕ} where
-  pub begin : Asks p mode start escape₀ out₀ cs₀ → L 0 cs₀ → (r : IsolateUnassigned) → r ≡ fresh →
+  pub begin : accepted p ≡ true → sound (machine_at start escape₀) ≡ true → L 0 cs₀ → (r : IsolateUnassigned) → r ≡ fresh →
       Going L p mode start escape₀ out₀ cs₀ start r 0 escape₀ out₀
-  begin a l r e =
-      record { is_sound = a.1.0; same = refl; cs = cs₀; left = l; leads = rw (e, run_rest mode p a.0 (machine_at start escape₀) cs₀) refl }
+  begin a s l r e = record { is_sound = s; same = refl; cs = cs₀; left = l; leads = rw (e, run_rest mode p a (machine_at start escape₀) cs₀) refl }
 
   module _ {w : Place} {r : IsolateUnassigned} {i : ℕ} {escape out : List ℕ} (g : Going L p mode start escape₀ out₀ cs₀ w r i escape out) where
     -- ---- a turn
@@ -73,11 +66,10 @@ module _ {L : ℕ → List ℕ → Type 0} {p : List ℕ} {mode : Mode} {start :
       unfolding rest_of
       turned = rw on.is at g.leads
 
-      pub turn_asks : Asks p mode start escape₀ out₀ cs₀ →
-          (accepted p ≡ true) × ((sound (machine_at w escape) ≡ true) × (w.at + length (pushed here) ≤ length out))
-      turn_asks a =
+      pub turn_room : start.at + length (pushed (run_in mode p (machine_at start escape₀) cs₀)) ≤ length out₀ → w.at + length (pushed here) ≤ length out
+      turn_room room =
           let end = same_end w.at start.at out out₀ (and_then here more) (run_in mode p (machine_at start escape₀) cs₀) turned in
-          (a.0, (g.is_sound, omega (arith, a.1.1, end, first_fits here more, g.same)))
+          omega (arith, room, end, first_fits here more, g.same)
 
       pub again : {next : Place} {s : IsolateUnassigned} {escape' out' : List ℕ} → progress (Ok next) escape' out' ≡ stored w.at out here →
           s ≡ isolator_after mode p r c → Going L p mode start escape₀ out₀ cs₀ next s next-i escape' out'
@@ -104,8 +96,8 @@ module _ {L : ℕ → List ℕ → Type 0} {p : List ℕ} {mode : Mode} {start :
       unfolding rest_of
       finishing = rw none at g.leads
 
-      pub finish_asks : Asks p mode start escape₀ out₀ cs₀ → (sound (machine_at w escape) ≡ true) × (w.at + length (pushed last) ≤ length out)
-      finish_asks a = (g.is_sound, omega (arith, a.1.1, same_end w.at start.at out out₀ last (run_in mode p (machine_at start escape₀) cs₀) finishing, g.same))
+      pub finish_room : start.at + length (pushed (run_in mode p (machine_at start escape₀) cs₀)) ≤ length out₀ → w.at + length (pushed last) ≤ length out
+      finish_room room = omega (arith, room, same_end w.at start.at out out₀ last (run_in mode p (machine_at start escape₀) cs₀) finishing, g.same)
 
       pub ended : {x : Progress} → x ≡ stored w.at out last → x ≡ stored start.at out₀ (run_in mode p (machine_at start escape₀) cs₀)
       ended e = e ∙ finishing

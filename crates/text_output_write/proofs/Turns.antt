@@ -4,9 +4,8 @@
 --     stop_stored                 1A stops for the reason that the record keeps
 --     Passed, char_passed         the answer of `Categorize` on a character that the check accepts
 --     Stopping, sub-stops         and on a refused one
---     handed_checked              what it hands on is the character checked
---     turn_end, after_end, turn_on, after_on    a turn at 0A that ends a part, and at any other character
---     turn_passed, turn_refused    the same of one that the check accepts, and of a refused one
+--     turn_end, after_end         a turn at 0A that ends a part
+--     turn_passed, turn_refused, after_on    a turn at any other character: one that the check accepts, a refused one, and the isolator after
 use Prim.Native.Nat.{ℕ}
 use mathlib.Core.Path.{◌≡◌, refl, sym, ◌∙◌, ap}
 use mathlib.Core.Bool.{Bool, true, false, ◌&&◌}
@@ -105,7 +104,7 @@ module _ (c d : ℕ) (r : Categorize) where
       })
 
 -- what is handed on is the character checked
-pub handed_checked : (c : ℕ) (found : Categorized) → Told c found → handed_on found ≡ checked c
+handed_checked : (c : ℕ) (found : Categorized) → Told c found → handed_on found ≡ checked c
 handed_checked c (Char d r) told = (char_passed c d r told).same
 handed_checked c (Sub d r) told = (sub-stops c d r told).sub
 
@@ -120,25 +119,31 @@ module _ (mode : Mode) (p : List ℕ) (m : Machine) (r : IsolateUnassigned) (c :
   unfolding isolator_after
   after_end e = rw e refl
 
-  pub turn_on : is_crlf mode && eqb c 0x0A ≡ false → (put : Bool) → put ≡ puts p r (checked c) →
-      turn_of mode p m r c ≡ steps_of mode m (check_numbers c) (joiner put ++ checked c ∷ [])
-  unfolding turn_of
-  turn_on e put o = rw (e, o, given_joined p r (checked c)) refl
+  -- by what `Categorize` answered, and whether the isolator puts 34F before what that hands on
+  module _ (e : is_crlf mode && eqb c 0x0A ≡ false) (found : Categorized) (told : Told c found) where
+    turn_on : (put : Bool) → put ≡ puts p r (handed_on found) → turn_of mode p m r c ≡ steps_of mode m (check_numbers c) (joiner put ++ checked c ∷ [])
+    unfolding turn_of
+    turn_on put o = rw (e, rw (handed_checked c found told) at o, given_joined p r (checked c)) refl
 
-  -- a character that the check accepts looks at no error
-  pub turn_passed : is_crlf mode && eqb c 0x0A ≡ false → (d : ℕ) → d ≡ checked c → eqb d 0x1A ≡ false → (put : Bool) → put ≡ puts p r (checked c) →
-      turn_of mode p m r c ≡ steps_of mode m [] (joiner put ++ d ∷ [])
-  turn_passed e d same n put o =
-      rw (← same) at (turn_on e put o)
-      ∙ steps_joined mode put m (check_numbers c) d
-      ∙ and_then_alike (steps_of mode m [] (joiner put)) (λ next. write_step_of mode next (check_numbers c) d) (λ next. write_step_of mode next [] d)
-      (λ next. step_error mode next (check_numbers c) [] d n)
-      ∙ sym (steps_joined mode put m [] d)
+    module _ (d : ℕ) (k : Categorize) (put : Bool) (o : put ≡ puts p r (handed_on found)) where
+      -- a character that the check accepts looks at no error
+      pub turn_passed : found ≡ Char d k → (eqb d 0x1A ≡ false) × (turn_of mode p m r c ≡ steps_of mode m [] (joiner put ++ d ∷ []))
+      turn_passed is =
+          let q = char_passed c d k (sym (ap categorized_numbers is) ∙ told) in (
+            q.no_sub,
+            rw (← q.same) at (turn_on put o)
+                ∙ steps_joined mode put m (check_numbers c) d
+                ∙ and_then_alike (steps_of mode m [] (joiner put)) (λ next. write_step_of mode next (check_numbers c) d) (λ next. write_step_of mode next [] d)
+                (λ next. step_error mode next (check_numbers c) [] d q.no_sub)
+                ∙ sym (steps_joined mode put m [] d),
+          )
 
-  pub turn_refused : is_crlf mode && eqb c 0x0A ≡ false → checked c ≡ 0x1A → (error : List ℕ) → error ≡ check_numbers c →
-      (put : Bool) → put ≡ puts p r (checked c) → turn_of mode p m r c ≡ steps_of mode m error (joiner put ++ 0x1A ∷ [])
-  turn_refused e is error f put o = rw f (rw is at (turn_on e put o))
+      pub turn_refused : found ≡ Sub d k →
+          (k.error ≡ Ok tt → ⊥) × (turn_of mode p m r c ≡ steps_of mode m (reason_numbers k.error) (joiner put ++ 0x1A ∷ []))
+      turn_refused is =
+          let q = sub-stops c d k (sym (ap categorized_numbers is) ∙ told) in
+          (q.some, rw q.reason (rw q.is at (turn_on put o)))
 
-  pub after_on : is_crlf mode && eqb c 0x0A ≡ false → isolator_after mode p r c ≡ after (isolate_step_of p r (checked c))
-  unfolding isolator_after
-  after_on e = rw e refl
+    pub after_on : isolator_after mode p r c ≡ after (isolate_step_of p r (handed_on found))
+    unfolding isolator_after
+    after_on = rw (e, handed_checked c found told) refl

@@ -11,6 +11,7 @@ use text_output::{Ground, Mode, State, TextOutput, WriteError, Written};
 use text_utils::is_basic_text_start;
 
 // Where a write begins: behind the kept characters.
+#[tactic(auto, unfolding(crate::specs::Inner::machine_at))]
 pub fn place_of(w: TextOutput) -> Place
     ensures escape_sequence_value { machine_at result w.escape_sequence ≡ machine_of w }
     ensures at_value { result.at ≡ w.kept }
@@ -34,13 +35,11 @@ fn start_or_none(page: &[u32], n: usize, first: u32) -> bool
     requires { accepted page.now ≡ true }
     ensures { result ≡ start_or_none page.now n first }
 {
-    if n == 0 {
-        return true;
-    }
-    is_basic_text_start(page, first)
+    n == 0 || is_basic_text_start(page, first)
 }
 
 // The characters up to the place are handed out, or refused by 5 and kept. Inner, as `start_or_none`.
+#[tactic(auto, unfolding(crate::specs::Inner::machine_at))]
 fn hand_out(
     page: &[u32],
     mode: Mode,
@@ -91,6 +90,7 @@ fn refused(stop: Stop) -> WriteError
 }
 
 // A refused step: the characters before it stay kept.
+#[tactic(auto, unfolding(crate::specs::Inner::machine_at))]
 fn keep(mode: Mode, expect_starter: bool, stopped: Stopped, escape: [u32; 64]) -> Written
     ensures { (written_outcome result []).given ≡ kept_by mode expect_starter (progress (Err stopped) escape []) }
 {

@@ -47,17 +47,11 @@ fn input_refusal(w: TextOutput, page: &[u32], values: Result<(), Refusal>) -> Re
 fn is_short(w: TextOutput, n: usize, room: usize) -> bool
     ensures { result ≡ ltb room (places_for_write w n) }
 {
-    if room < w.kept {
-        return true;
-    }
-    let behind = room - w.kept;
-    if behind < w.held {
-        return true;
-    }
-    (behind - w.held) / 3 < n
+    room < w.kept || room - w.kept < w.held || (room - w.kept - w.held) / 3 < n
 }
 
 // Whether a write of n characters is refused, and why. Total.
+#[tactic(auto, using(common::proofs::Answers::refusal_some), unfolding(text_output::specs::Write::write_refusal))]
 pub fn write_refusal(
     w: TextOutput,
     page: &[u32],
@@ -75,6 +69,7 @@ pub fn write_refusal(
 }
 
 // A write refused for this. Total.
+#[tactic(auto, unfolding(text_output::specs::Close::abandon_of))]
 pub fn refused_write(w: TextOutput, why: Refusal) -> Written
     ensures { (written_outcome result []).given ≡ refused_write (refusal_number why) w }
 {

@@ -27,6 +27,7 @@ struct Ahead {
 }
 
 // Inner: asks for an accepted page.
+#[tactic(auto, unfolding(isolate_unassigned::specs::Inner::isolate_step_of))]
 fn look_ahead(page: &[u32], isolator: IsolateUnassigned, c: u32) -> Ahead
     requires { accepted page.now ≡ true }
     ensures put_value { result.put ≡ puts page.now isolator c }
@@ -86,17 +87,6 @@ fn handed_on(found: Categorized) -> u32
     }
 }
 
-// The reason that the record keeps. Inner: asks for one, which stands behind every 1A: the Rust's `unwrap`.
-fn reason_in(kept: Categorize) -> BasicTextError
-    requires { kept.error ≡ Ok tt → ⊥ }
-    ensures { error_numbers result ≡ reason_numbers kept.error }
-{
-    match kept.error {
-        Err(e) => e,
-        Ok(()) => BasicTextError::UnrecognizedEscape,
-    }
-}
-
 // 34F, where it is put, and then a character that the check accepts. Inner, as `push`.
 fn push_isolated(
     mode: Mode,
@@ -116,7 +106,7 @@ fn push_isolated(
     push(mode, next, c, escape, out)
 }
 
-// 34F, where it is put, and then 1A, which stops. Inner, as `push`, and asks for a kept reason.
+// 34F, where it is put, and then 1A, which stops. Inner, as `push`, and asks for a kept reason, which stands behind every 1A.
 fn stop_isolated(
     mode: Mode,
     w: Place,
@@ -132,7 +122,7 @@ fn stop_isolated(
         ≡ stored w.at out.old (steps_of mode (machine_at w escape.old) (reason_numbers kept.error) (joiner put ++ 0x1A ∷ [])) }
 {
     let place = push_joiner(mode, w, put, escape, out)?;
-    let stop = stop_in(place.state, reason_in(kept));
+    let stop = stop_in(place.state, kept.error.unwrap_err());
     Err(Stopped { place, stop })
 }
 

@@ -12,25 +12,18 @@ use text_utils::is_basic_text_end;
 fn is_color(mode: Mode) -> bool
     ensures { result ≡ is_color mode }
 {
-    match mode {
-        Mode::Plain => false,
-        Mode::Crlf => false,
-        Mode::Color => true,
-    }
+    matches!(mode, Mode::Color)
 }
 
 // Whether a newline ends a part.
 pub fn is_crlf(mode: Mode) -> bool
     ensures { result ≡ is_crlf mode }
 {
-    match mode {
-        Mode::Plain => false,
-        Mode::Crlf => true,
-        Mode::Color => false,
-    }
+    matches!(mode, Mode::Crlf)
 }
 
 // What stands last after a character.
+#[tactic(auto, unfolding(text_output::specs::Step::ground_of))]
 fn ground_of(c: u32) -> Ground
     ensures { result ≡ ground_of c }
 {

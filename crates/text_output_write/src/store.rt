@@ -32,14 +32,6 @@ pub struct Stopped {
     pub stop: Stop,
 }
 
-impl Stopped {
-    fn new(place: Place, stop: Stop) -> Self
-        ensures { (result.place ≡ place) × (result.stop ≡ stop) }
-    {
-        Stopped { place, stop }
-    }
-}
-
 // One character that is no 1A. Inner: asks for a held count that the state can have, and for room.
 pub fn push(
     mode: Mode,
@@ -82,11 +74,17 @@ pub fn push(
                 at: at + held + 1,
             })
         }
-        Step::NoColor => Err(Stopped::new(w, Stop::Reason(BasicTextError::Escape))),
-        Step::Unrecognized => Err(Stopped::new(
-            w,
-            Stop::Reason(BasicTextError::UnrecognizedEscape),
-        )),
-        Step::Full => Err(Stopped::new(w, Stop::Limit)),
+        Step::NoColor => Err(Stopped {
+            place: w,
+            stop: Stop::Reason(BasicTextError::Escape),
+        }),
+        Step::Unrecognized => Err(Stopped {
+            place: w,
+            stop: Stop::Reason(BasicTextError::UnrecognizedEscape),
+        }),
+        Step::Full => Err(Stopped {
+            place: w,
+            stop: Stop::Limit,
+        }),
     }
 }

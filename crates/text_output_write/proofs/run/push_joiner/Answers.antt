@@ -1,13 +1,11 @@
--- `push_joiner` meets its contract: a run of one character, or of none.
-use mathlib.Core.Path.{refl}
+-- A run of one character, or of none.
 use Rattle.text_output_write.proofs.Turns.{joined, not_joined}
 use Rattle.text_output_write.proofs.run.push_joiner.Goals as goal
 
-pub push-requires : goal.push-requires
-push-requires c =
+pub push-requires-clause-room : goal.push-requires-clause-room
+push-requires-clause-room c =
     let a = c.args in
-    let p = c.requires in
-    (refl, (p.0, rw (joined a.mode a.w a.escape.now a.out.now a.put c.if-put.true) at p.1))
+    rw (joined a.mode a.w a.escape.now a.out.now a.put c.if-put.true) at c.requires.room
 
 pub returns-then-put : goal.returns-then-put
 returns-then-put c =

@@ -1,51 +1,37 @@
--- `stop_isolated` meets its contract: 34F, where it is put, and behind it the step at 1A, which stops.
-use mathlib.Core.Path.{◌∙◌}
-use mathlib.Core.List.{[]}
-use native.Mathlib.Omega.{arith}
+-- 34F, where it is put, and behind it the step at 1A, which stops.
+use Rattle.std.proofs.Common.{[], ap, ◌∙◌, arith}
+use Rattle.common.proofs.Kit.{err_is}
 use Rattle.check_char.specs.Check.{reason_numbers}
 use Rattle.isolate_unassigned.specs.Meaning.{joiner}
 use Rattle.text_output.specs.Writer.{Machine}
-use Rattle.text_output.specs.Step.{Stepped, write_step_of, steps_of}
+use Rattle.text_output.specs.Step.{write_step_of, steps_of}
 use Rattle.text_output_write.specs.Inner.{machine_at}
 use Rattle.text_output_write.proofs.Rest.{steps_joined}
 use Rattle.text_output_write.proofs.Turns.{stop_stored}
 use Rattle.text_output_write.proofs.Progress.{on_then, off_then, first_fits}
-use borrow.Author.Rules.{rules}
 use Rattle.text_output_write.proofs.run.stop_isolated.Goals as goal
 
-pub push_joiner-before-requires : goal.push_joiner-before-requires
-push_joiner-before-requires c =
+pub push_joiner-requires-clause-room : goal.push_joiner-requires-clause-room
+push_joiner-requires-clause-room c =
     let a = c.args in
-    let p = c.requires in
-    let error = reason_numbers a.kept.error in
     let m = machine_at a.w a.escape.now in
-    let first = steps_of a.mode m [] (joiner a.put) in
-    let more : Machine → Stepped = λ next. write_step_of a.mode next error 0x1A in
-    let room = rw (steps_joined a.mode a.put m error 0x1A) at p.1.1 in
-    (p.1.0, omega (arith, room, first_fits first more))
+    let error = reason_numbers a.kept.error in
+    let room = rw (steps_joined a.mode a.put m error 0x1A) at c.requires.room in
+    omega (arith, room, first_fits (steps_of a.mode m [] (joiner a.put)) (λ (next : Machine). write_step_of a.mode next error 0x1A))
 
-pub enum_told-1 : goal.enum_told-1
-enum_told-1 c = search rules
-
-pub returns-in-On : goal.returns-in-On
-returns-in-On c =
+pub returns-in_err-place : goal.returns-in_err-place
+returns-in_err-place c =
     let a = c.args in
-    let error = reason_numbers a.kept.error in
     let m = machine_at a.w a.escape.now in
-    let first = steps_of a.mode m [] (joiner a.put) in
-    let more : Machine → Stepped = λ next. write_step_of a.mode next error 0x1A in
-    let e = rw c.in-On.is at c.push_joiner-before.ensures in
-    let s = rw c.reason_in.ensures at c.stop_in.ensures in
+    let error = reason_numbers a.kept.error in
+    rw (err_is _ _ c.from_residual.ensures.1, steps_joined a.mode a.put m error 0x1A)
+    (off_then a.w.at a.out.now (λ (next : Machine). write_step_of a.mode next error 0x1A) (steps_of a.mode m [] (joiner a.put)) _ _ _ (rw c.in_err-place.was at c.push_joiner.ensures))
+
+pub returns : goal.returns
+returns c =
+    let a = c.args in
+    let m = machine_at a.w a.escape.now in
+    let error = reason_numbers a.kept.error in
     rw (steps_joined a.mode a.put m error 0x1A)
-    (stop_stored a.mode _ _ _ error c.stop_in.result s ∙ on_then a.w.at a.out.now more first _ _ _ e)
-
-pub returns-in-Stopped : goal.returns-in-Stopped
-returns-in-Stopped c =
-    let a = c.args in
-    let error = reason_numbers a.kept.error in
-    let m = machine_at a.w a.escape.now in
-    let first = steps_of a.mode m [] (joiner a.put) in
-    let more : Machine → Stepped = λ next. write_step_of a.mode next error 0x1A in
-    let e = rw c.in-Stopped.is at c.push_joiner-before.ensures in
-    rw (steps_joined a.mode a.put m error 0x1A, c.in-Stopped.is)
-    (off_then a.w.at a.out.now more first _ c.in-Stopped.field-1 _ _ e)
+    (stop_stored a.mode _ _ _ error c.stop_in-stop.result (rw (← ap reason_numbers c.unwrap_err.ensures) at c.stop_in-stop.ensures)
+    ∙ on_then a.w.at a.out.now (λ (next : Machine). write_step_of a.mode next error 0x1A) (steps_of a.mode m [] (joiner a.put)) _ _ _ (rw c.in_ok-place.was at c.push_joiner.ensures))

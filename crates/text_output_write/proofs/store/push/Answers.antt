@@ -1,49 +1,83 @@
--- `push` meets its contract: in each arm what is stored, and the record after, are what the step asks for, done.
--- a character to hold: the escape holds fewer than 64
-use Prim.Native.Nat.{◌+◌, ◌<◌}
-use mathlib.Core.Path.{◌≡◌, refl, ap, sym, ◌∙◌}
-use native.Mathlib.Nat.{sub-zero}
-use lib.ListN.{length}
+-- In each arm what is stored, and the record after, are what the step asks for, done.
+use Rattle.std.proofs.Common.{◌<◌, length-take, refl, ap, sym, ◌∙◌, arith}
+use native.Mathlib.Nat.{add-zero, sub-zero}
 use Rattle.text_output_write.specs.Inner.{machine_at}
 use Rattle.text_output_write.proofs.Asked.{takes}
-use Rattle.text_output_write.proofs.Stores.{does, takes_low, whole_room, whole_stored, whole_length}
+use Rattle.text_output_write.proofs.Stores.{does, takes_low, out_room, whole_room, whole_stored, whole_length}
 use Rattle.text_output_write.proofs.store.push.Goals as goal
-use Rattle.text_output_write.proofs.store.push.Goals.{After-all-in-Whole-1, In-Hold, In-Whole}
 
-hold-fits : (h : In-Hold) → h.args.w.held < 64
-hold-fits h =
-    let a = h.args in
-    takes_low a.mode a.w a.escape.now a.c h.requires.1.0
-    (ap takes (sym h.state_machine_char-asked.ensures ∙ h.in-Hold.is))
+pub bounds-out-at : goal.bounds-out-at
+bounds-out-at c =
+    let a = c.args in
+    out_room a.mode a.w a.escape.now a.c c.requires.sub a.out.now c.requires.room _ (sym c.state_machine_char.ensures ∙ c.in-Out.is)
 
--- a character that ends the escape: the same, and there is room for all of it
-ends_low : (m : In-Whole) → m.args.w.held < 64
-ends_low m =
-    let a = m.args in
-    takes_low a.mode a.w a.escape.now a.c m.requires.1.0
-    (ap takes (sym m.state_machine_char-asked.ensures ∙ m.in-Whole.is))
+pub offset_bounds-escape-held : goal.offset_bounds-escape-held
+offset_bounds-escape-held c =
+    let a = c.args in
+    omega (arith, takes_low a.mode a.w a.escape.now a.c c.requires.sound (ap takes (sym c.state_machine_char.ensures ∙ c.in-Hold.is)))
 
--- the escape's places
-long : (l : After-all-in-Whole-1) → length l.args.escape.now ≡ 64
-long l = l.all-in-Whole-1.given
+pub bounds-escape-held : goal.bounds-escape-held
+bounds-escape-held c =
+    let a = c.args in
+    takes_low a.mode a.w a.escape.now a.c c.requires.sound (ap takes (sym c.state_machine_char.ensures ∙ c.in-Hold.is))
 
-ends-room : (l : After-all-in-Whole-1) →
-    let a = l.args in
-    a.w.at + a.w.held < length a.out.now
-ends-room l =
-    let a = l.args in
-    let p = l.requires in
-    whole_room a.mode a.w a.escape.now a.c p.0 a.out.now p.1.1 (long l) (ends_low l.before.before)
-    (sym l.state_machine_char-asked.ensures ∙ l.in-Whole.is)
+pub overflow_add-result-in-Hold : goal.overflow_add-result-in-Hold
+overflow_add-result-in-Hold c =
+    let a = c.args in
+    omega (arith, takes_low a.mode a.w a.escape.now a.c c.requires.sound (ap takes (sym c.state_machine_char.ensures ∙ c.in-Hold.is)))
+
+pub put_run-requires : goal.put_run-requires
+put_run-requires c =
+    let a = c.args in
+    let q = sym c.state_machine_char.ensures ∙ c.in-Whole.is in
+    let low : a.w.held < 64 = takes_low a.mode a.w a.escape.now a.c c.requires.sound (ap takes q) in
+    omega (arith, length-take a.w.held a.escape.now, whole_room a.mode a.w a.escape.now a.c c.requires.sub a.out.now c.requires.room (omega arith) low q)
+
+pub bounds-out-at-in-Whole : goal.bounds-out-at-in-Whole
+bounds-out-at-in-Whole c =
+    let a = c.args in
+    let q = sym c.state_machine_char.ensures ∙ c.in-Whole.is in
+    let low : a.w.held < 64 = takes_low a.mode a.w a.escape.now a.c c.requires.sound (ap takes q) in
+    omega (arith, whole_room a.mode a.w a.escape.now a.c c.requires.sub a.out.now c.requires.room (omega arith) low q)
+
+pub returns-in-Out : goal.returns-in-Out
+unfolding machine_at
+returns-in-Out c =
+    let a = c.args in
+    rw (does a.mode a.w a.escape.now a.c c.requires.sub _ (sym c.state_machine_char.ensures ∙ c.in-Out.is)) refl
+
+pub returns-in-Hold : goal.returns-in-Hold
+unfolding machine_at
+returns-in-Hold c =
+    let a = c.args in
+    rw (does a.mode a.w a.escape.now a.c c.requires.sub _ (sym c.state_machine_char.ensures ∙ c.in-Hold.is)) (simp add-zero)
 
 pub returns-in-Whole : goal.returns-in-Whole
+unfolding machine_at
 returns-in-Whole c =
     let a = c.args in
     let e = a.escape.now in
+    let q = sym c.state_machine_char.ensures ∙ c.in-Whole.is in
+    let low : a.w.held < 64 = takes_low a.mode a.w e a.c c.requires.sound (ap takes q) in
     rw (
-      does a.mode a.w e a.c c.requires.0 _ (sym c.state_machine_char-asked.ensures ∙ c.in-Whole.is),
+      does a.mode a.w e a.c c.requires.sub _ q,
       simp sub-zero at c.put_run.ensures,
-      whole_stored e a.out.now a.w.held a.w.at a.c (long c.before.before.before.before.before) (ends_low c.before.before.before.before.before.before.before),
-      whole_length e a.out.now a.w.held a.w.at a.c (long c.before.before.before.before.before) (ends_low c.before.before.before.before.before.before.before),
+      whole_stored e a.out.now a.w.held a.w.at a.c (omega arith) low,
+      whole_length e a.out.now a.w.held a.w.at a.c (omega arith) low,
     )
-    (unfold machine_at in refl)
+    refl
+
+pub returns-in-NoColor : goal.returns-in-NoColor
+returns-in-NoColor c =
+    let a = c.args in
+    rw (does a.mode a.w a.escape.now a.c c.requires.sub _ (sym c.state_machine_char.ensures ∙ c.in-NoColor.is)) (simp add-zero)
+
+pub returns-in-Unrecognized : goal.returns-in-Unrecognized
+returns-in-Unrecognized c =
+    let a = c.args in
+    rw (does a.mode a.w a.escape.now a.c c.requires.sub _ (sym c.state_machine_char.ensures ∙ c.in-Unrecognized.is)) (simp add-zero)
+
+pub returns-in-Full : goal.returns-in-Full
+returns-in-Full c =
+    let a = c.args in
+    rw (does a.mode a.w a.escape.now a.c c.requires.sub _ (sym c.state_machine_char.ensures ∙ c.in-Full.is)) (simp add-zero)
