@@ -3,7 +3,7 @@
 // the comparison's oracle is plain Rust arithmetic.
 #![tactic(auto)]
 
-ghost use Rattle.std.specs.Prelude.{◌≡◌};
+ghost use Rattle.std.specs.Prelude.{◌≡◌, ◌*◌, ◌%◌, ◌^◌};
 ghost use Rattle.generator.specs.Generator.{next_of, back_of, fill_places, fill_state};
 
 // A step multiplies by the first and adds the second. The third undoes the first: their product is 1 modulo 2^32.
@@ -20,18 +20,25 @@ const LISTED: [u32; 32] = [
     0x7F, 0x40, 0x3F, 0x7E, 0x9,
 ];
 
-// The state after a step, modulo 2^32 as the methods have it. Total.
+// The product's low 32 bits. "A wrapping 32-bit multiply helper with the supplied wrapping add"
+fn wrapping_mul(a: u32, b: u32) -> u32
+    ensures { result ≡ (a * b) % 2 ^ 32 }
+{
+    a.wrapping_mul(b)
+}
+
+// The state after a step. Total.
 pub fn next(state: u32) -> u32
     ensures { result ≡ next_of state }
 {
-    FACTOR.wrapping_mul(state).wrapping_add(ADDEND)
+    wrapping_mul(FACTOR, state).wrapping_add(ADDEND)
 }
 
 // The state before: a step from it leads to this one, and from no other. "its inverse gives the backward step" Total.
 pub fn back(state: u32) -> u32
     ensures { result ≡ back_of state }
 {
-    INVERSE.wrapping_mul(state.wrapping_sub(ADDEND))
+    wrapping_mul(INVERSE, state.wrapping_sub(ADDEND))
 }
 
 // Fills every place, a step for each, and hands back the state after the last. A part that is filled from there goes on as the whole would.

@@ -5,4 +5,4 @@ use Rattle.generator.proofs.back.Goals as goal
 
 pub returns : goal.returns
 unfolding back_of
-returns c = mul-mod inverse _ _
+returns c = rw c.wrapping_mul.ensures (mul-mod inverse _ _)

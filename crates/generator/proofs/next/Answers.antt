@@ -6,4 +6,4 @@ use Rattle.generator.proofs.next.Goals as goal
 
 pub returns : goal.returns
 unfolding next_of
-returns c = mod-add-mod (factor * c.args.state) _ addend
+returns c = rw c.wrapping_mul.ensures (mod-add-mod (factor * c.args.state) _ addend)
