@@ -13,7 +13,7 @@ mod plain_writer;
 mod run;
 mod writing;
 
-ghost use Rattle.std.specs.Prelude.{◌≡◌, ◌≤◌, length, take};
+ghost use Rattle.std.specs.Prelude.{◌≡◌, ◌≤◌, length};
 ghost use Rattle.std.proofs.lemmas.List.Edits.{sets};
 ghost use Rattle.text_input.specs.Scan.{outcome, scan_of, finish_of};
 ghost use Rattle.text_output.specs.Writer.{bytes_outcome};

@@ -1,8 +1,8 @@
 // Bytes as 32-bit numbers, four bytes each, the low byte first. Bytes past the last whole four are neither read nor written.
-ghost use Rattle.std.specs.Prelude.{◌≡◌, ◌∷◌, [], ◌+◌, ◌*◌, ◌≤◌, ◌<◌, length, get_or, take};
+ghost use Rattle.std.specs.Prelude.{◌≡◌, ◌∷◌, [], ◌+◌, ◌*◌, ◌≤◌, length, get_or};
 ghost use Rattle.std.proofs.lemmas.List.Edits.{sets};
 ghost use Rattle.scalars.specs.Chars.{are_chars};
-ghost use Rattle.basic_text.specs.Exports.{number_of, numbers_of, bytes_of};
+ghost use Rattle.basic_text.specs.Exports.{numbers_of, bytes_of};
 
 use scalars::is_char;
 

@@ -1,6 +1,6 @@
 // A run of characters, read from bytes and written to bytes, piece by piece: each piece, a part of the chunk and none of document 01's
 // pieces, is a run of the crate `text_input`.
-ghost use Rattle.std.specs.Prelude.{◌≡◌, true, ◌+◌, ◌*◌, ◌≤◌, ◌<◌, length, drop};
+ghost use Rattle.std.specs.Prelude.{◌≡◌, true, ◌+◌, ◌*◌, ◌≤◌, length, drop};
 ghost use Rattle.std.proofs.lemmas.List.Edits.{sets};
 ghost use Rattle.page.specs.Page.{accepted};
 ghost use Rattle.text_input.specs.Scan.{run_of, skipped};
