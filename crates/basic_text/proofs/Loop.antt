@@ -1,16 +1,14 @@
 -- The loop of `run` on lists: the scanner's way over a chunk (text_input, proofs/Loop.antt), what it appends being stored as bytes.
 --     as_bytes    numbers stored as their bytes
---     read_fits, read_back, run_fits, many, held, piece_ran    a piece by itself
 --     Pieces      at the head of the loop; pieces_begin: before the first piece
 --     piece_fits, piece_taken    a piece: the room for what it appends, and after it
 use mathlib.Core.Path.{◌≡◌, refl, sym, ap, ◌∙◌}
 use mathlib.Core.List.{List, [], ◌∷◌, ◌++◌}
 use mathlib.Core.Logic.{inl, inr}
-use Prim.Native.Nat.{ℕ, ◌+◌, ◌*◌, ◌/◌, ◌≤◌, min}
-use native.Mathlib.Nat.{zero-add}
+use Prim.Native.Nat.{ℕ, ◌+◌, ◌*◌, ◌≤◌, min}
 use Rattle.common.proofs.Kit.{by_lt}
 use native.Mathlib.Omega.{arith}
-use lib.ListN.{length, take, drop, length-append, length-drop}
+use lib.ListN.{length, drop, length-append, length-drop}
 use lib.Seq.{sets, length-sets, drop-drop, drop-append_seam}
 use Rattle.stretch.proofs.Way.{Store, Going, begin, size, again}
 use Rattle.text_input.specs.declared.Options.{Options}
@@ -20,10 +18,9 @@ use Rattle.text_input.specs.Scan.{run_of}
 use Rattle.text_input.specs.Inner.{outs, ran_by}
 use Rattle.text_input.proofs.Loop.{scan_way}
 use Rattle.basic_text.specs.Exports.{numbers_of, bytes_of}
-use Rattle.basic_text.proofs.Laws.{length_numbers, numbers_append, numbers_drop}
+use Rattle.basic_text.proofs.Laws.{numbers_append, numbers_drop}
 use Rattle.text_input.proofs.Room.{room}
-use Rattle.text_input.proofs.Stretch.{ran_is}
-use Rattle.basic_text.proofs.Stores.{stored_first, sets_bytes}
+use Rattle.basic_text.proofs.Stores.{sets_bytes}
 
 abbrev pub as_bytes : Store
 as_bytes =
@@ -32,38 +29,6 @@ as_bytes =
       put_length = λ places k xs. length-sets places (4 * k) (bytes_of xs);
       put_append = sets_bytes;
     }
-
--- ---- a piece: its bytes are read as numbers, its run goes to some places, and what it appends is stored
-module _ (p : List ℕ) (o : Options) (r : TextInput) (bytes numbers read : List ℕ) (fit : length (numbers_of bytes) ≤ length numbers)
-    (is : read ≡ sets numbers 0 (numbers_of bytes)) where
-  abbrev m : ℕ
-  m = length bytes / 4
-
-  pub read_fits : m ≤ length read
-  read_fits = (stored_first (numbers_of bytes) numbers read m (sym (length_numbers bytes)) fit is).0
-
-  pub read_back : take m read ≡ numbers_of bytes
-  read_back = (stored_first (numbers_of bytes) numbers read m (sym (length_numbers bytes)) fit is).1
-
-  abbrev out : List ℕ
-  out = outs p o r (numbers_of bytes)
-
-  module _ (places : List ℕ) (enough : 3 * length (numbers_of bytes) + 1 ≤ length places) where
-    pub run_fits : length (outs p o r (take m read)) ≤ length places
-    run_fits = rw read_back (omega (arith, room p o r (numbers_of bytes)))
-
-    module _ (ran : Ran) (after : List ℕ) (e : ran ≡ ran_by 0 (run_of p o r (take m read))) (f : after ≡ sets places 0 (outs p o r (take m read))) where
-      whole : ran ≡ ran_by 0 (run_of p o r (numbers_of bytes))
-      whole = rw read_back at e
-
-      pub many : ran.written ≡ length out
-      many = ap (λ (x : Ran). x.written) whole ∙ zero-add _
-
-      pub held : (ran.written ≤ length after) × (take ran.written after ≡ out)
-      held = stored_first out places after ran.written many (omega (arith, room p o r (numbers_of bytes))) (rw read_back at f)
-
-      pub piece_ran : (k : ℕ) → record { written = k + ran.written; next = ran.next } ≡ ran_by k (run_of p o r (numbers_of bytes))
-      piece_ran k = ran_is (omega (arith, many)) (ap (λ (x : Ran). x.next) whole)
 
 -- ---- the loop
 -- at its head: what is left of the chunk's characters is that of the pieces left

@@ -1,6 +1,5 @@
 -- Numbers stored in a queue of bytes, as the functions of a write store them.
 --     numbers_sets, tail_sets    the bytes of numbers, stored, are the numbers stored, and the bytes past the last whole four stay
---     take_wide, take_fits      the first of some numbers
 --     moved                     what some steps stored in places of their own, moved behind k numbers, is what they store there
 --     turn_few, finish_few      a turn stores at most 67 characters, and the end one
 --     with_tail                 a queue is its numbers and the bytes past the last whole four
@@ -13,7 +12,7 @@ use native.Mathlib.Numerals.{add-one}
 use native.Mathlib.Omega.{arith}
 use lib.Dec.{leb}
 use lib.ListN.{length, take, set}
-use lib.Seq.{sets, length-sets, length-take-le}
+use lib.Seq.{sets, length-sets}
 use borrow.Author.Tests.{leb-true}
 use Rattle.common.proofs.Kit.{both_true}
 use Rattle.common.proofs.Lists.{drop_sets, take_first}
@@ -54,15 +53,6 @@ numbers_sets (n ∷ ns) q k w h =
     let e : length (numbers_of q') ≡ length (numbers_of q) =
     omega (arith, length_numbers q', length_numbers q, length-sets q (4 * k) (bytes_of (n ∷ []))) in
     rw (sets_bytes (n ∷ []) ns q k) (numbers_sets ns q' (k + 1) (wide_more n ns w) (omega (arith, e)) ∙ rw (one, add-one) refl)
-
-pub take_wide : (n : ℕ) (ns : List ℕ) → Wide ns → Wide (take n ns)
-take_wide zero ns w i = omega arith
-take_wide (suc n) [] w i = omega arith
-take_wide (suc n) (x ∷ ns) w zero = w 0
-take_wide (suc n) (x ∷ ns) w (suc i) = take_wide n ns (wide_more x ns w) i
-
-pub take_fits : (k n : ℕ) (ns : List ℕ) (m : ℕ) → n ≤ length ns → k + n ≤ m → k + length (take n ns) ≤ m
-take_fits k n ns m h g = omega (arith, length-take-le n ns h)
 
 pub tail_sets : (ns q : List ℕ) (k : ℕ) → k + length ns ≤ length (numbers_of q) → tail (sets q (4 * k) (bytes_of ns)) ≡ tail q
 tail_sets ns q k h =

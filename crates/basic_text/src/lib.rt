@@ -13,7 +13,7 @@ mod plain_writer;
 mod run;
 mod writing;
 
-ghost use Rattle.std.specs.Prelude.{◌≡◌, ◌≤◌, length, take};
+ghost use Rattle.std.specs.Prelude.{◌≡◌, ◌≤◌, length};
 ghost use Rattle.std.proofs.lemmas.List.Edits.{sets};
 ghost use Rattle.text_input.specs.Scan.{outcome, scan_of, finish_of};
 ghost use Rattle.text_output.specs.Writer.{bytes_outcome};
@@ -35,7 +35,7 @@ use writing::write;
 
 // The scanner's record. A state's number past the last is read as 0, and a flag is false at 0 alone.
 #[repr(C)]
-#[derive(Clone, Copy)]
+#[derive(Clone, Copy, Debug, PartialEq, Eq)]
 pub struct Record {
     pub state: u32,
     pub expect_starter: u32,
@@ -46,7 +46,7 @@ pub struct Record {
 
 // The number of a refusal, or 0; how many numbers were written; the record after the call.
 #[repr(C)]
-#[derive(Clone, Copy)]
+#[derive(Clone, Copy, Debug, PartialEq, Eq)]
 pub struct Reply {
     pub refused: u32,
     pub written: usize,
@@ -55,7 +55,7 @@ pub struct Reply {
 
 // The writer's record. A mode's or a state's number past the last is read as 0, and a flag is false at 0 alone.
 #[repr(C)]
-#[derive(Clone, Copy)]
+#[derive(Clone, Copy, Debug, PartialEq, Eq)]
 pub struct Writer {
     pub mode: u32,
     pub expect_starter: u32,
@@ -69,7 +69,7 @@ pub struct Writer {
 // and its replacements, how many and which, each 0 where there is none; how many bytes were taken; how many characters are handed
 // out; the record after the call.
 #[repr(C)]
-#[derive(Clone, Copy)]
+#[derive(Clone, Copy, Debug, PartialEq, Eq)]
 pub struct WriteReply {
     pub refused: u32,
     pub abandon: u32,
@@ -90,19 +90,16 @@ const LONGEST: usize = 8194;
 // The numbers of a short page at most. That of Unicode 15.0.0 has 1,796. For a short page a call zeroes a quarter of the places.
 const SHORT: usize = 2048;
 
-// Reads a page into the first places of all, and answers how many numbers it has: none for one that is wrong by its length.
-// Inner: asks for room.
-fn read_page(page: &[u8], all: &mut [u32]) -> usize
-    requires { length (fitting (page_of page.now)) ≤ length all.old }
-    ensures within { result ≤ length all.old }
-    ensures places { take result all.new ≡ fitting (page_of page.now) }
+// Reads a page into the first places of out, and answers these places: none for one that is wrong by its length. Inner: asks for room.
+#[tactic(auto, using(crate::proofs::Pages::right_page, crate::proofs::Pages::wrong_page))]
+fn read_page<'a>(page: &[u8], out: &'a mut [u32]) -> &'a [u32]
+    requires { length (fitting (page_of page.now)) ≤ length out.old }
+    ensures { result.now ≡ fitting (page_of page.now) }
 {
-    let n = page.len() / 4;
-    if page.len() % 4 == 0 && n <= LONGEST {
-        read_numbers(page, all);
-        return n;
+    if page.len() % 4 == 0 && page.len() / 4 <= LONGEST {
+        return read_numbers(page, out);
     }
-    0
+    &[]
 }
 
 // The scan by a page of numbers. Total.
@@ -150,8 +147,7 @@ fn scan_by<const N: usize>(
         ≡ sets queue.old 0 (bytes_of (scan_of r (page_of page.now) options (numbers_of chunk.now) (numbers_of queue.old)).places) }
 {
     let mut numbers = [0u32; N];
-    let n = read_page(page, &mut numbers);
-    scan(r, &numbers[..n], options, chunk, queue)
+    scan(r, read_page(page, &mut numbers), options, chunk, queue)
 }
 
 // "'exported on numbers and byte slices for the Rust harness': extern 'C' scan, finish and byte write over numbers and byte slices,
@@ -195,7 +191,7 @@ fn finish(r: TextInput, eof: bool, queue: &mut [u8]) -> Scanned
     let mut two = [0u32; 2];
     let finished = r.finish(eof, &mut two);
     if let Ok(n) = finished.answer {
-        write_numbers(queue, 0, &two, n);
+        write_numbers(queue, 0, &two[..n]);
     }
     finished
 }
@@ -225,8 +221,7 @@ fn write_by<const N: usize>(
         ≡ sets queue.old 0 (bytes_of (write_of w (page_of page.now) bytes.now (numbers_of queue.old)).outcome.places) }
 {
     let mut numbers = [0u32; N];
-    let n = read_page(page, &mut numbers);
-    write(w, &numbers[..n], bytes, queue)
+    write(w, read_page(page, &mut numbers), bytes, queue)
 }
 
 // Bytes are written. Page, bytes and queue are lent as bytes; the kept characters stand in the queue's first places, those of the write

@@ -1,8 +1,8 @@
 // Bytes as 32-bit numbers, four bytes each, the low byte first. Bytes past the last whole four are neither read nor written.
-ghost use Rattle.std.specs.Prelude.{◌≡◌, ◌∷◌, [], ◌+◌, ◌*◌, ◌≤◌, ◌<◌, length, get_or, take};
+ghost use Rattle.std.specs.Prelude.{◌≡◌, ◌∷◌, [], ◌+◌, ◌*◌, ◌≤◌, length, get_or};
 ghost use Rattle.std.proofs.lemmas.List.Edits.{sets};
 ghost use Rattle.scalars.specs.Chars.{are_chars};
-ghost use Rattle.basic_text.specs.Exports.{number_of, numbers_of, bytes_of};
+ghost use Rattle.basic_text.specs.Exports.{numbers_of, bytes_of};
 
 use scalars::is_char;
 
@@ -24,26 +24,27 @@ fn write_number(bytes: &mut [u8], i: usize, n: u32)
     bytes[at..at + 4].copy_from_slice(&n.to_le_bytes());
 }
 
-// Reads all numbers into the first places of out. Inner: asks for room.
+// Reads all numbers into the first places of out, and answers these places. Inner: asks for room.
 #[tactic(auto, using(crate::proofs::Laws::length_numbers))]
-pub fn read_numbers(bytes: &[u8], out: &mut [u32])
+pub fn read_numbers<'a>(bytes: &[u8], out: &'a mut [u32]) -> &'a [u32]
     requires { length (numbers_of bytes.now) ≤ length out.old }
-    ensures { out.new ≡ sets out.old 0 (numbers_of bytes.now) }
+    ensures { result.now ≡ numbers_of bytes.now }
 {
-    for i in 0..bytes.len() / 4 {
+    let n = bytes.len() / 4;
+    for i in 0..n {
         out[i] = read_number(bytes, i);
     }
+    &out[..n]
 }
 
-// Stores the first n of some numbers from place k on. Inner: asks for room.
+// Stores some numbers from place k on. Inner: asks for room.
 #[tactic(auto, using(crate::proofs::Stores::sets_next))]
-pub fn write_numbers(bytes: &mut [u8], k: usize, from: &[u32], n: usize)
-    requires n_in_bounds { n ≤ length from.now }
-    requires n_in_bounds_2 { 4 * (k + n) ≤ length bytes.old }
-    ensures { bytes.new ≡ sets bytes.old (4 * k) (bytes_of (take n from.now)) }
+pub fn write_numbers(bytes: &mut [u8], k: usize, from: &[u32])
+    requires { 4 * (k + length from.now) ≤ length bytes.old }
+    ensures { bytes.new ≡ sets bytes.old (4 * k) (bytes_of from.now) }
 {
-    for i in 0..n {
-        write_number(bytes, k + i, from[i]);
+    for (i, &n) in from.iter().enumerate() {
+        write_number(bytes, k + i, n);
     }
 }
 

@@ -48,7 +48,7 @@ impl From<WrittenBytes> for WriteReply {
     ghost from_gives = { λ w reply. reply ≡ write_reply_of (bytes_outcome w []) };
 
     fn from(w: WrittenBytes) -> Self {
-        let none = WriteReply {
+        let mut reply = WriteReply {
             refused: 0,
             abandon: 0,
             reason: 0,
@@ -62,30 +62,24 @@ impl From<WrittenBytes> for WriteReply {
             writer: Writer::from(w.next),
         };
         match w.answer {
-            Ok(written) => WriteReply { written, ..none },
-            Err(WriteError::Refused(why)) => WriteReply {
-                refused: why.number(),
-                ..none
-            },
-            Err(WriteError::Abandon(why)) => WriteReply {
-                refused: why.number(),
-                abandon: 1,
-                ..none
-            },
+            Ok(written) => reply.written = written,
+            Err(WriteError::Refused(why)) => reply.refused = why.number(),
+            Err(WriteError::Abandon(why)) => {
+                reply.refused = why.number();
+                reply.abandon = 1;
+            }
             Err(WriteError::Unwritable(e)) => {
                 let why = reason_of(e);
-                WriteReply {
-                    refused: Refusal::Unwritable.number(),
-                    abandon: 1,
-                    reason: why.number,
-                    character: why.character,
-                    count: why.count,
-                    first: why.first,
-                    second: why.second,
-                    third: why.third,
-                    ..none
-                }
+                reply.refused = Refusal::Unwritable.number();
+                reply.abandon = 1;
+                reply.reason = why.number;
+                reply.character = why.character;
+                reply.count = why.count;
+                reply.first = why.first;
+                reply.second = why.second;
+                reply.third = why.third;
             }
         }
+        reply
     }
 }

@@ -1,6 +1,6 @@
 // A run of characters, read from bytes and written to bytes, piece by piece: each piece, a part of the chunk and none of document 01's
 // pieces, is a run of the crate `text_input`.
-ghost use Rattle.std.specs.Prelude.{◌≡◌, true, ◌+◌, ◌*◌, ◌≤◌, ◌<◌, length, drop};
+ghost use Rattle.std.specs.Prelude.{◌≡◌, true, ◌+◌, ◌*◌, ◌≤◌, length, drop};
 ghost use Rattle.std.proofs.lemmas.List.Edits.{sets};
 ghost use Rattle.page.specs.Page.{accepted};
 ghost use Rattle.text_input.specs.Scan.{run_of, skipped};
@@ -27,6 +27,7 @@ pub fn skips(r: TextInput, chunk: &[u8]) -> usize
 
 // The characters of a piece, and their output stored from place k on. They are read into numbers, and their output is written to
 // places first. Inner: asks for an accepted page and for room in each of the three; 3 × n + 1 places are enough for n characters.
+#[tactic(auto, using(text_input::proofs::Room::room, crate::proofs::Stores::stored_first))]
 fn piece(
     r: TextInput,
     page: &[u32],
@@ -44,10 +45,8 @@ fn piece(
     ensures ran { result ≡ ran_by k (run_of page.now options r (numbers_of bytes.now)) }
     ensures stored { queue.new ≡ sets queue.old (4 * k) (bytes_of (outs page.now options r (numbers_of bytes.now))) }
 {
-    read_numbers(bytes, numbers);
-    let m = bytes.len() / 4;
-    let ran = r.run(page, options, &numbers[..m], places);
-    write_numbers(queue, k, places, ran.written);
+    let ran = r.run(page, options, read_numbers(bytes, numbers), places);
+    write_numbers(queue, k, &places[..ran.written]);
     Ran {
         written: k + ran.written,
         next: ran.next,

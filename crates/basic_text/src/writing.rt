@@ -21,14 +21,13 @@ use text_output_write::{
     turn, write_refusal,
 };
 
-// Stores the first n of some numbers from place k on. Inner: asks for room.
-fn store_numbers(queue: &mut [u8], k: usize, from: &[u32], n: usize)
-    requires n_in_bounds { n ≤ length from.now }
-    requires n_in_bounds_2 { k + n ≤ length (numbers_of queue.old) }
-    ensures places { numbers_of queue.new ≡ sets (numbers_of queue.old) k (take n from.now) }
+// Stores some numbers from place k on. Inner: asks for room.
+fn store_numbers(queue: &mut [u8], k: usize, from: &[u32])
+    requires { k + length from.now ≤ length (numbers_of queue.old) }
+    ensures places { numbers_of queue.new ≡ sets (numbers_of queue.old) k from.now }
     ensures tail { tail queue.new ≡ tail queue.old }
 {
-    write_numbers(queue, k, from, n);
+    write_numbers(queue, k, from);
 }
 
 // What some steps stored in few, moved to the queue from place k on. Inner: asks for room.
@@ -47,11 +46,11 @@ fn move_behind(
 {
     match pushed {
         Ok(w) => {
-            store_numbers(queue, k, few, w.at);
+            store_numbers(queue, k, &few[..w.at]);
             Ok(Place { at: k + w.at, ..w })
         }
         Err(Stopped { place, stop }) => {
-            store_numbers(queue, k, few, place.at);
+            store_numbers(queue, k, &few[..place.at]);
             Err(Stopped {
                 place: Place {
                     at: k + place.at,

@@ -1,5 +1,6 @@
 // The numbers that stand for flags, states and modes where plain numbers go over: in the exports, and in the answers of the
-// comparison. Those of reasons are in `check_char`. Total.
+// comparison. Those of reasons are in `check_char`. Total. They are functions and no impl of From, which the language refuses here:
+// neither the numbers nor the types are of this crate.
 //     scanner.rt   the scanner's states
 //     writer.rt    the writer's modes and states
 #![tactic(auto)]

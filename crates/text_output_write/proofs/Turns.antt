@@ -1,5 +1,4 @@
 -- What the functions of one turn store, arm by arm.
---     puts_two                    a step of the isolator that gives two puts 34F before the character
 --     joined, not_joined          34F put, and none
 --     stop_stored                 1A stops for the reason that the record keeps
 --     Passed, char_passed         the answer of `Categorize` on a character that the check accepts
@@ -21,8 +20,6 @@ use Rattle.check_char.specs.declared.Categorized.{Categorized}
 use Rattle.check_char.specs.declared.Categorized.TheVariants.{Char, Sub}
 use Rattle.check_char.specs.Check.{reason_of, reason_numbers, check_numbers, unrefused, categorized_numbers, categorize_of}
 use Rattle.isolate_unassigned.specs.declared.IsolateUnassigned.{IsolateUnassigned}
-use Rattle.isolate_unassigned.specs.declared.Isolated.{Isolated}
-use Rattle.isolate_unassigned.specs.declared.Isolated.TheVariants.{One, Two}
 use Rattle.isolate_unassigned.specs.Inner.{fresh, puts, isolate_step_of, after}
 use Rattle.isolate_unassigned.specs.Meaning.{joiner}
 use Rattle.text_output.specs.declared.Mode.{Mode}
@@ -35,15 +32,6 @@ use Rattle.text_output_write.specs.Inner.{machine_at, stored, stop_numbers, prog
 use Rattle.text_output_write.proofs.Asked.{refused_stops}
 use Rattle.text_output_write.proofs.Rest.{and_then_alike, step_error, steps_one, steps_joined, accepted_no_sub, given_joined}
 use Rattle.std.specs.Prelude.{Ok, Err}
-
--- ---- what the isolator puts before
-abbrev pub two : Isolated → Bool
-two (One c next) = false
-two (Two j c next) = true
-
-pub puts_two : (p : List ℕ) (r : IsolateUnassigned) (c : ℕ) (s : Isolated) → isolate_step_of p r c ≡ s → two s ≡ puts p r c
-unfolding isolate_step_of
-puts_two p r c s e = sym (ap two e) ∙ by (puts p r c) (λ q. rw q refl) (λ q. rw q refl)
 
 -- ---- 34F, put or not
 module _ (mode : Mode) (w : Place) (escape out : List ℕ) where

@@ -10,7 +10,8 @@ use check_char::BasicTextError;
 use stretch::put_run;
 use text_output::{Ground, Mode, State, Step};
 
-// What steps change, without the held characters, and the place for the next character to hand out.
+// What steps change, without the held characters, and the place for the next character to hand out. That the state can have the held
+// count is asked by each function and is no invariant of the type: `place_of`, which is public, asks nothing of its record.
 #[derive(Clone, Copy, Debug, PartialEq, Eq)]
 pub struct Place {
     pub state: State,

@@ -1,5 +1,6 @@
 -- A finish appends at most two characters, which `write_numbers` stores.
-use Rattle.std.proofs.Common.{arith, rules}
+use Rattle.std.proofs.Common.{sym, arith, rules}
+use Rattle.std.proofs.Math.Seq.{length-take-le}
 use Rattle.basic_text.proofs.Laws.{Bytes}
 use Rattle.basic_text.proofs.Calls.{finish_refused, never_refused, held, fits, finished}
 use Rattle.basic_text.proofs.finish.Goals as goal
@@ -11,13 +12,21 @@ returns-then-queue-lt2 c =
     let r = finish_refused a.r a.eof a.queue.now bytes c.if-queue-lt2.true in
     record { queue_value = r.0; queue_after = r.1 }
 
+pub slice_bounds-two-end : goal.slice_bounds-two-end
+slice_bounds-two-end c =
+    let a = c.args in
+    (held a.r a.eof a.queue.now _ _ c.finish-finished.ensures _ c.in-Ok.is).0
+
+pub slice_bounds-write_numbers-end : goal.slice_bounds-write_numbers-end
+slice_bounds-write_numbers-end c =
+    let a = c.args in
+    sym (length-take-le _ _ (held a.r a.eof a.queue.now _ _ c.finish-finished.ensures _ c.in-Ok.is).0)
+
 pub write_numbers-requires : goal.write_numbers-requires
 write_numbers-requires c =
     let a = c.args in
-    record {
-      n_in_bounds = (held a.r a.eof a.queue.now _ _ c.finish-finished.ensures _ c.in-Ok.is).0;
-      n_in_bounds_2 = fits a.r a.eof a.queue.now _ _ c.finish-finished.ensures _ c.in-Ok.is (omega arith);
-    }
+    let h = held a.r a.eof a.queue.now _ _ c.finish-finished.ensures _ c.in-Ok.is in
+    omega (arith, length-take-le _ _ h.0, fits a.r a.eof a.queue.now _ _ c.finish-finished.ensures _ c.in-Ok.is (omega arith))
 
 pub returns-in-Ok : goal.returns-in-Ok
 returns-in-Ok c =
