@@ -64,6 +64,7 @@ pub fn plain_run(bytes: &[u8], from: usize, gap: Range) -> PlainEnd
     let mut at = from;
     let mut chars = 0;
     let mut last = 0;
+    // No `for`: each turn takes as many bytes as its calls answer.
     loop {
         let end = ascii_end(bytes, at);
         if at < end {

@@ -72,8 +72,7 @@ fn stop_in(state: State, e: BasicTextError) -> Stop
 {
     match state {
         State::Ground(_) => Stop::Reason(e),
-        State::Esc => Stop::Reason(BasicTextError::UnrecognizedEscape),
-        State::Csi => Stop::Reason(BasicTextError::UnrecognizedEscape),
+        State::Esc | State::Csi => Stop::Reason(BasicTextError::UnrecognizedEscape),
     }
 }
 
@@ -82,8 +81,7 @@ fn handed_on(found: Categorized) -> u32
     ensures { result ≡ handed_on found }
 {
     match found {
-        Categorized::Char(c, _) => c,
-        Categorized::Sub(c, _) => c,
+        Categorized::Char(c, _) | Categorized::Sub(c, _) => c,
     }
 }
 

@@ -66,19 +66,17 @@ fn esc_step(c: u32) -> Step
 fn csi_step(held: usize, c: u32) -> Step
     ensures { result ≡ csi_asked held c }
 {
-    let last = c == 0x6d;
-    if (0x20 <= c) & (c <= 0x3f) | last {
-        if held < TextOutput::ESCAPE_SEQUENCE_SIZE {
-            if last {
-                Step::Whole
-            } else {
-                Step::Hold(State::Csi)
-            }
+    if !matches!(c, 0x20..=0x3f | 0x6d) {
+        return Step::Unrecognized;
+    }
+    if held < TextOutput::ESCAPE_SEQUENCE_SIZE {
+        if c == 0x6d {
+            Step::Whole
         } else {
-            Step::Full
+            Step::Hold(State::Csi)
         }
     } else {
-        Step::Unrecognized
+        Step::Full
     }
 }
 
