@@ -1,5 +1,5 @@
 // The operations on one character: `L replace`, `L check`, `L start` and `L end`.
-use crate::outcomes::refused;
+use crate::outcomes::Refused;
 use crate::reason::Unwritable;
 use check_char::CheckError;
 use common::Refusal;
@@ -19,7 +19,7 @@ fn replaced_by(chars: &[u32], out: &mut Answers) {
 pub fn replacement(words: Words, out: &mut Answers) -> Result<(), Why> {
     let (c, units) = words.number_and_option()?;
     match replace::replacement(units, c) {
-        Err(why) => out.line(refused(why)),
+        Err(why) => out.line(Refused(why)),
         Ok(Replaced::One(x)) => replaced_by(&[x], out),
         Ok(Replaced::Two(x, y)) => replaced_by(&[x, y], out),
         Ok(Replaced::Three(x, y, z)) => replaced_by(&[x, y, z], out),
@@ -32,7 +32,7 @@ pub fn check(words: Words, out: &mut Answers) -> Result<(), Why> {
     let (c, units) = words.number_and_option()?;
     match check_char::check(units, c) {
         Ok(()) => out.line("ok"),
-        Err(CheckError::NotAChar) => out.line(refused(Refusal::NotAChar)),
+        Err(CheckError::NotAChar) => out.line(Refused(Refusal::NotAChar)),
         Err(CheckError::Unwritable(e)) => out.line(Unwritable(e)),
     }
     Ok(())
@@ -42,7 +42,7 @@ pub fn check(words: Words, out: &mut Answers) -> Result<(), Why> {
 fn class(found: Result<bool, Refusal>, out: &mut Answers) {
     match found {
         Ok(is) => out.line(format_args!("ok {}", u8::from(is))),
-        Err(why) => out.line(refused(why)),
+        Err(why) => out.line(Refused(why)),
     }
 }
 

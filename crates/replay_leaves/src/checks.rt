@@ -1,5 +1,5 @@
 // The check of a run: `A check`.
-use crate::outcomes::refused;
+use crate::outcomes::Refused;
 use check_run::FaultKind;
 use replay_words::NUMBERS;
 use replay_words::answers::Answers;
@@ -22,7 +22,7 @@ pub fn check(words: Words, page: &[u32], out: &mut Answers) -> Result<(), Why> {
     match check_run::check_run(page, &run) {
         Ok(None) => out.line("yes"),
         Ok(Some(fault)) => out.line(format_args!("fault {:x} {}", fault.place, word(fault.kind))),
-        Err(why) => out.line(refused(why)),
+        Err(why) => out.line(Refused(why)),
     }
     Ok(())
 }

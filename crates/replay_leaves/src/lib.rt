@@ -17,7 +17,7 @@ mod reason;
 mod runs;
 mod units;
 
-pub use outcomes::{refused, stored};
+pub use outcomes::{Refused, stored};
 pub use reason::Unwritable;
 use replay_words::answers::Answers;
 use replay_words::why::Why;

@@ -1,5 +1,5 @@
 // A refused character in an answer.
-use crate::outcomes::refused;
+use crate::outcomes::Refused;
 use check_char::{BasicTextError, Reason, reason_of};
 use common::Refusal;
 use replay_words::listed::List;
@@ -14,7 +14,7 @@ pub struct Unwritable(pub BasicTextError);
 // `no 4 r=R`, and ` c=C` and ` y=LIST` where the reason names a character and replacements.
 impl Display for Unwritable {
     fn fmt<W: fmt::Write>(&self, f: &mut fmt::Formatter<W>) -> fmt::Result {
-        let refused = refused(Refusal::Unwritable);
+        let refused = Refused(Refusal::Unwritable);
         let why = reason_of(self.0);
         write!(f, "{refused} r={}", why.number)?;
         if 2 <= why.size {

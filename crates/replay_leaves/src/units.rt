@@ -1,5 +1,5 @@
 // The operations on UTF-16: `U16 dec` and `U16 enc`, in either byte order.
-use crate::outcomes::{refused, stored};
+use crate::outcomes::{Refused, stored};
 use common::Refusal;
 use replay_words::answers::Answers;
 use replay_words::places::blank;
@@ -18,10 +18,10 @@ struct Unread(DecodeError);
 impl Display for Unread {
     fn fmt<W: fmt::Write>(&self, f: &mut fmt::Formatter<W>) -> fmt::Result {
         match self.0 {
-            DecodeError::OddBytes => refused(Refusal::OddBytes).fmt(f),
-            DecodeError::NoRoom => refused(Refusal::NoRoom).fmt(f),
+            DecodeError::OddBytes => Refused(Refusal::OddBytes).fmt(f),
+            DecodeError::NoRoom => Refused(Refusal::NoRoom).fmt(f),
             DecodeError::Unpaired(place) => {
-                let refused = refused(Refusal::UnpairedSurrogate);
+                let refused = Refused(Refusal::UnpairedSurrogate);
                 write!(f, "{refused} at={place:x}")
             }
         }

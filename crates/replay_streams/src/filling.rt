@@ -1,5 +1,5 @@
 // The operation `F`: a buffer of bytes, which holds a pattern beforehand, is filled from a queue.
-use replay_leaves::refused;
+use replay_leaves::Refused;
 use replay_words::NUMBERS;
 use replay_words::answers::Answers;
 use replay_words::listed::Pairs;
@@ -30,7 +30,7 @@ pub fn fill(mut words: Words, out: &mut Answers) -> Result<(), Why> {
             out.line(format_args!("ok taken={taken:x} n={n:x} bytes={bytes}"));
         }
         Err(why) => {
-            let refused = refused(why);
+            let refused = Refused(why);
             out.line(format_args!("{refused} bytes={bytes}"));
         }
     }

@@ -3,17 +3,6 @@ use crate::places::{Place, front, is_blank};
 use std::fmt;
 use std::fmt::Display;
 
-// A refusal by its number: `no NUMBER`.
-#[derive(Clone, Copy, Debug, PartialEq, Eq)]
-pub struct Refused(pub u32);
-
-impl Display for Refused {
-    fn fmt<W: fmt::Write>(&self, f: &mut fmt::Formatter<W>) -> fmt::Result {
-        let number = self.0;
-        write!(f, "no {number}")
-    }
-}
-
 // `clean`, or `dirty` where a call wrote a place that it was to leave as it was.
 #[derive(Clone, Copy)]
 pub struct Clean(pub bool);

@@ -1,6 +1,5 @@
 // What the calls on a writer answered.
-use replay_leaves::{Unwritable, refused};
-use replay_words::stored::Refused;
+use replay_leaves::{Refused, Unwritable};
 use std::fmt;
 use std::fmt::Display;
 use text_output::{CloseError, WriteError};
@@ -40,8 +39,8 @@ impl Display for Failure {
 // How many places a write hands out.
 pub fn handed_out(found: Result<usize, WriteError>) -> Result<usize, Failure> {
     found.map_err(|why| match why {
-        WriteError::Refused(why) => Failure::Refused(refused(why)),
-        WriteError::Abandon(why) => Failure::Abandon(refused(why)),
+        WriteError::Refused(why) => Failure::Refused(Refused(why)),
+        WriteError::Abandon(why) => Failure::Abandon(Refused(why)),
         WriteError::Unwritable(e) => Failure::Unwritable(Unwritable(e)),
     })
 }
@@ -49,7 +48,7 @@ pub fn handed_out(found: Result<usize, WriteError>) -> Result<usize, Failure> {
 // That a flush or a close is done.
 pub fn done(found: Result<(), CloseError>) -> Result<(), Failure> {
     found.map_err(|why| match why {
-        CloseError::Refused(why) => Failure::Refused(refused(why)),
-        CloseError::Abandon(why) => Failure::Abandon(refused(why)),
+        CloseError::Refused(why) => Failure::Refused(Refused(why)),
+        CloseError::Abandon(why) => Failure::Abandon(Refused(why)),
     })
 }
