@@ -200,20 +200,24 @@ impl TextOutput {
         w
     }
 
+    // A flush or a close refused for this, which changes nothing.
+    fn unchanged_by(self, why: Refusal) -> Answered
+        ensures answer { result.answer ≡ Err (CloseError.Refused why) }
+        ensures next { result.next ≡ self }
+    {
+        Answered {
+            answer: Err(CloseError::Refused(why)),
+            next: self,
+        }
+    }
+
     // The flush of a sound record, by its state.
     fn flush_in(self, state: State) -> Answered
         ensures { answered_given result ≡ flush_in state self }
     {
         match state {
             State::Ground(ground) => self.flush_ground(ground),
-            State::Esc => Answered {
-                answer: Err(CloseError::Refused(Refusal::InEscape)),
-                next: self,
-            },
-            State::Csi => Answered {
-                answer: Err(CloseError::Refused(Refusal::InEscape)),
-                next: self,
-            },
+            State::Esc | State::Csi => self.unchanged_by(Refusal::InEscape),
         }
     }
 
@@ -222,17 +226,13 @@ impl TextOutput {
         ensures { answered_given result ≡ flush_in (Grounded kind) self }
     {
         match kind {
-            Ground::Newline => Answered {
+            Ground::Newline | Ground::Other => Answered {
                 answer: Ok(()),
                 next: self.expecting(),
             },
             Ground::ZwjOrPrepend => Answered {
                 answer: Err(CloseError::Abandon(Refusal::AfterNonEnd)),
                 next: self.abandon(),
-            },
-            Ground::Other => Answered {
-                answer: Ok(()),
-                next: self.expecting(),
             },
         }
     }
@@ -246,10 +246,7 @@ impl TextOutput {
         if self.is_sound() {
             self.flush_in(self.state)
         } else {
-            Answered {
-                answer: Err(CloseError::Refused(Refusal::UnsoundWriter)),
-                next: self,
-            }
+            self.unchanged_by(Refusal::UnsoundWriter)
         }
     }
 
@@ -259,8 +256,7 @@ impl TextOutput {
     {
         match state {
             State::Ground(ground) => self.close_ground(ground),
-            State::Esc => self.closed_by(Refusal::InEscape),
-            State::Csi => self.closed_by(Refusal::InEscape),
+            State::Esc | State::Csi => self.closed_by(Refusal::InEscape),
         }
     }
 
@@ -297,10 +293,7 @@ impl TextOutput {
         if self.is_sound() {
             self.close_in(self.state)
         } else {
-            Answered {
-                answer: Err(CloseError::Refused(Refusal::UnsoundWriter)),
-                next: self,
-            }
+            self.unchanged_by(Refusal::UnsoundWriter)
         }
     }
 
