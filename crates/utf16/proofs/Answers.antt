@@ -2,13 +2,15 @@
 --     decode_order     reading is refused by 14, then by 15, then by 8
 --     encode_order     writing is refused by 1, then by 8
 --     decoded_back     for every answer, that of its numbers is it: no two answers list alike
+--     decoded_named    a refusal has the number of the variant of `Refusal` that is named for it
 use Prim.Native.Nat.{ℕ, ◌*◌, ◌%◌}
 use mathlib.Core.Path.{◌≡◌, refl}
 use mathlib.Core.Bool.{Bool, true, false, not, cond}
 use mathlib.Core.List.{List, [], ◌∷◌}
 use lib.Dec.{eqb, ltb}
 use lib.ListN.{length}
-use Rattle.common.specs.Answers.{refusal_in}
+use Rattle.common.specs.Answers.{refusal_in, refusal_number}
+use Rattle.common.specs.declared.Refusal.TheVariants as refusal
 use Rattle.common.specs.Order.{◌when◌, first_of}
 use Rattle.scalars.specs.Chars.{are_chars}
 use Rattle.utf16.specs.declared.ByteOrder.{ByteOrder}
@@ -63,3 +65,10 @@ decoded_back (Ok n) = refl
 decoded_back (Err OddBytes) = refl
 decoded_back (Err (Unpaired place)) = refl
 decoded_back (Err NoRoom) = refl
+
+-- "14 for an odd number of bytes, then 15 for an unpaired surrogate": by the refusals' names
+pub decoded_named : (place : ℕ) →
+    (decoded_numbers (Err OddBytes) ≡ refusal_number refusal.OddBytes ∷ [])
+    × (decoded_numbers (Err (Unpaired place)) ≡ refusal_number refusal.UnpairedSurrogate ∷ place ∷ [])
+    × (decoded_numbers (Err NoRoom) ≡ refusal_number refusal.NoRoom ∷ [])
+decoded_named place = (refl, refl, refl)
