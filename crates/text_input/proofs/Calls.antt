@@ -5,11 +5,12 @@
 --     right_page, counts, from_le, enough, accepted_is
 --                                 where it is accepted: the page is, the count stays within its limit, the chunk has what is skipped,
 --                                 what it appends has room, and its outcome
+--     ending_chars_lem, ending_next   what a finish appends, and the record after it
 --     finish_refused, finish_enough, finished_is
 --                                 a finish
 use mathlib.Core.Path.{◌≡◌, sym, ◌∙◌}
-use mathlib.Core.Bool.{Bool, true, false, cond}
-use mathlib.Core.List.{List, [], ◌∷◌}
+use mathlib.Core.Bool.{Bool, true, false, cond, not, ◌&&◌, ◌||◌}
+use mathlib.Core.List.{List, [], ◌∷◌, ◌++◌}
 use Prim.Native.Nat.{ℕ, suc, ◌+◌, ◌≤◌, ◌<◌}
 use native.Mathlib.Nat.{zero-add}
 use native.Mathlib.Omega.{arith}
@@ -20,13 +21,16 @@ use lib.Seq.{sets}
 use Rattle.scalars.specs.Chars.{are_chars}
 use Rattle.common.proofs.Kit.{split}
 use Rattle.page.specs.Page.{accepted}
+use Rattle.text_input.specs.declared.State.TheVariants.{Ground}
 use Rattle.text_input.specs.declared.Options.{Options}
 use Rattle.text_input.specs.declared.TextInput.{TextInput}
+use Rattle.text_input_parts.specs.Appended.{lead_chars, last_of, end_mark_of, newline_of}
 use Rattle.text_input_parts.specs.Refusals.{max_count, places_for_chunk}
-use Rattle.text_input.specs.Scan.{run_of, scan_refusal, leading_bom, skipped, opened, Outcome, outcome, refused, scan_of, finish_chars, finish_next, finish_of}
+use Rattle.text_input.specs.Scan.{run_of, scan_refusal, leading_bom, skipped, opened, Outcome, outcome, refused, scan_of, pending_of, after_line, finish_chars, finish_next, finish_of}
 use Rattle.text_input.specs.declared.Ran.{Ran}
 use Rattle.text_input.specs.declared.Ending.{Ending}
 use Rattle.text_input.specs.Inner.{outs, ran_by, ending_chars}
+use Rattle.text_input_parts.proofs.Last.{last_three}
 use Rattle.text_input_parts.proofs.Passed.{ChunkPassed, passed}
 use Rattle.text_input.proofs.Room.{part_room, finish_room}
 use Rattle.std.specs.Prelude.{Ok, Option}
@@ -90,6 +94,20 @@ module _ (a : Asked) where
         accepted_is ran q h = rw (← a.is, eq-eqb a.no 0 z, h.0, h.1, zero-add, f, g)
 
 -- ---- a finish
+module _ (r : TextInput) (eof : Bool) (lead mark newline : Option ℕ) (last : ℕ) (line : Bool)
+    (h₁ : lead ≡ pending_of r.state) (h₂ : last ≡ last_of r.last (lead_chars lead)) (h₃ : mark ≡ end_mark_of last)
+    (h₄ : line ≡ after_line r.state) (h₅ : newline ≡ newline_of (eof && not line)) where
+  pub ending_chars_lem : lead_chars lead ++ (lead_chars mark ++ lead_chars newline) ≡ finish_chars r eof
+  ending_chars_lem = rw (h₅, h₃, h₂, h₁, h₄)
+
+  pub ending_next : (l₂ l₃ : ℕ) → l₂ ≡ last_of last (lead_chars mark) → l₃ ≡ last_of l₂ (lead_chars newline) →
+      record { state = Ground (eof || line); expect_starter = true; at_start = r.at_start; last = l₃; count = r.count }
+      ≡ finish_next r eof
+  ending_next l₂ l₃ h₆ h₇ =
+      let l : l₃ ≡ last_of r.last (finish_chars r eof) =
+      rw (h₇, h₆, h₂) (last_three r.last (lead_chars lead) (lead_chars mark) (lead_chars newline) ∙ rw ending_chars_lem) in
+      rw (l, h₄)
+
 module _ (r : TextInput) (eof : Bool) (queue : List ℕ) where
   pub finish_refused : length queue < 2 → refused r 8 queue ≡ finish_of r eof queue
   unfolding finish_of
