@@ -24,7 +24,7 @@ ghost use Rattle.basic_text.specs.Inner.{longest_page, fitting};
 
 use basic_text_numbers::flag_of;
 use common::Refusal;
-use numbers::{hold_chars, read_numbers, write_numbers};
+use numbers::{hold_chars, read_front, write_numbers};
 use page::is_accepted;
 use plain::options_of;
 use run::{run, skips};
@@ -91,13 +91,14 @@ const LONGEST: usize = 8194;
 const SHORT: usize = 2048;
 
 // Reads a page into the first places of out, and answers these places: none for one that is wrong by its length. Inner: asks for room.
-#[tactic(auto, using(crate::proofs::Pages::right_page, crate::proofs::Pages::wrong_page))]
+#[tactic(auto, using(crate::proofs::Pages::right_page, crate::proofs::Pages::wrong_page, crate::proofs::Pages::fitting_few))]
 fn read_page<'a>(page: &[u8], out: &'a mut [u32]) -> &'a [u32]
     requires { length (fitting (page_of page.now)) ≤ length out.old }
-    ensures { result.now ≡ fitting (page_of page.now) }
+    ensures upper_bound { length result.now ≤ longest_page }
+    ensures all_after { result.now ≡ fitting (page_of page.now) }
 {
     if page.len() % 4 == 0 && page.len() / 4 <= LONGEST {
-        return read_numbers(page, out);
+        return read_front(page, out);
     }
     &[]
 }

@@ -24,17 +24,25 @@ fn write_number(bytes: &mut [u8], i: usize, n: u32)
     bytes[at..at + 4].copy_from_slice(&n.to_le_bytes());
 }
 
-// Reads all numbers into the first places of out, and answers these places. Inner: asks for room.
+// Reads all numbers into the first places of out. Inner: asks for room.
 #[tactic(auto, using(crate::proofs::Laws::length_numbers))]
-pub fn read_numbers<'a>(bytes: &[u8], out: &'a mut [u32]) -> &'a [u32]
+pub fn read_numbers(bytes: &[u8], out: &mut [u32])
+    requires { length (numbers_of bytes.now) ≤ length out.old }
+    ensures { out.new ≡ sets out.old 0 (numbers_of bytes.now) }
+{
+    for i in 0..bytes.len() / 4 {
+        out[i] = read_number(bytes, i);
+    }
+}
+
+// The same, and answers these places. Inner, as `read_numbers`.
+#[tactic(auto, using(crate::proofs::Laws::length_numbers, crate::proofs::Stores::stored_first))]
+pub fn read_front<'a>(bytes: &[u8], out: &'a mut [u32]) -> &'a [u32]
     requires { length (numbers_of bytes.now) ≤ length out.old }
     ensures { result.now ≡ numbers_of bytes.now }
 {
-    let n = bytes.len() / 4;
-    for i in 0..n {
-        out[i] = read_number(bytes, i);
-    }
-    &out[..n]
+    read_numbers(bytes, out);
+    &out[..bytes.len() / 4]
 }
 
 // Stores some numbers from place k on. Inner: asks for room.

@@ -7,7 +7,7 @@ ghost use Rattle.text_input.specs.Scan.{run_of, skipped};
 ghost use Rattle.text_input.specs.Inner.{outs, ran_by};
 ghost use Rattle.basic_text.specs.Exports.{numbers_of, bytes_of};
 
-use super::numbers::{read_number, read_numbers, write_numbers};
+use super::numbers::{read_front, read_number, write_numbers};
 use scalars::BOM;
 use text_input::{Options, Ran, TextInput};
 
@@ -45,7 +45,7 @@ fn piece(
     ensures ran { result ≡ ran_by k (run_of page.now options r (numbers_of bytes.now)) }
     ensures stored { queue.new ≡ sets queue.old (4 * k) (bytes_of (outs page.now options r (numbers_of bytes.now))) }
 {
-    let ran = r.run(page, options, read_numbers(bytes, numbers), places);
+    let ran = r.run(page, options, read_front(bytes, numbers), places);
     write_numbers(queue, k, &places[..ran.written]);
     Ran {
         written: k + ran.written,

@@ -17,8 +17,8 @@ use isolate_unassigned::IsolateUnassigned;
 use scalars::{utf8_step, valid_prefix};
 use text_output::{Mode, TextOutput, WrittenBytes};
 use text_output_write::{
-    Place, Stopped, Turned, bytes_refusal, end_write, finish, place_of, refused_write, taking,
-    turn, write_refusal,
+    Place, Stopped, Turned, bytes_refusal, end_write, finish, may_write, place_of, refused_by,
+    taking, turn,
 };
 
 // Stores some numbers from place k on. Inner: asks for room.
@@ -164,8 +164,8 @@ pub fn write(w: TextOutput, page: &[u32], bytes: &[u8], queue: &mut [u8]) -> Wri
 {
     let prefix = valid_prefix(bytes);
     let values = bytes_refusal(bytes.len(), prefix.chars);
-    if let Err(why) = write_refusal(w, page, values, prefix.chars, queue.len() / 4) {
-        return taking(prefix.bytes, refused_write(w, why));
+    if let Err(why) = may_write(w, page, values, prefix.chars, queue.len() / 4) {
+        return taking(prefix.bytes, refused_by(w, why));
     }
     let mode = w.mode;
     let mut escape = w.escape_sequence;

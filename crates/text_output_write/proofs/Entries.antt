@@ -1,13 +1,15 @@
 -- The entries' tests, and the definitions' cases.
 --     Through, let_through            what a write that 9, 2, the values and 8 let through has
 --     str_refused, bytes_refused      a write of characters, of bytes, that is refused before its steps
---     place_sound, place_room         what the steps ask for, from where a write begins
---     place_ends                      what a write comes to, by where they end: how it ends hangs on the first place alone
 --     str_written, bytes_written      the definition of a write of characters, of bytes, that is not refused
+--     end_anywhere                    how a write ends hangs on the first place alone
+--     place_sound, place_room         what the steps ask for, from where a write begins
+--     place_ends                      how it ends, by where they end
+--     place_ends_written              what is answered by the first place alone is what the write comes to
 --     taken                           the bytes taken beside what a write of characters returns
 use Prim.Native.Nat.{ℕ, ◌+◌, ◌≤◌}
 use mathlib.Core.Path.{◌≡◌, refl, sym, ◌∙◌, ap}
-use mathlib.Core.Bool.{true, cond}
+use mathlib.Core.Bool.{Bool, true, cond}
 use mathlib.Core.List.{List, [], ◌∷◌}
 use native.Mathlib.Omega.{arith}
 use lib.Dec.{eqb, ltb}
@@ -19,6 +21,7 @@ use Rattle.common.proofs.Answers.{refusal_some}
 use Rattle.common.proofs.Kit.{by}
 use Rattle.scalars.specs.Utf8.{encode_all, chars_of}
 use Rattle.page.specs.Page.{accepted}
+use Rattle.text_output.specs.declared.Mode.{Mode}
 use Rattle.text_output.specs.declared.TextOutput.{TextOutput}
 use Rattle.text_output.specs.declared.Written.{Written}
 use Rattle.text_output.specs.declared.WrittenBytes.{WrittenBytes}
@@ -79,7 +82,17 @@ module _ (w : TextOutput) (p places : List ℕ) where
   unfolding write_of
   bytes_written bytes e = rw (← e) refl
 
--- from where a write begins
+-- ---- by the first place alone
+module _ (p : List ℕ) (mode : Mode) (expect : Bool) (r : Written) (x : Result Place Stopped) (escape : List ℕ) (first : ℕ)
+    (e : written_outcome r (first ∷ []) ≡ end_of p mode expect (progress x escape (first ∷ []))) where
+  pub end_anywhere : (places : List ℕ) → first ≡ get_or places 0 0 → written_outcome r places ≡ end_of p mode expect (progress x escape places)
+  end_anywhere places f = ap (λ (o : Outcome). record { given = o.given; places = places }) e ∙ same x
+    where
+      same : (y : Result Place Stopped) → record { given = (end_of p mode expect (progress y escape (first ∷ []))).given; places = places } ≡ end_of p mode expect (progress y escape places)
+      same (Ok next) = rw f refl
+      same (Err s) = refl
+
+-- ---- from where a write begins
 module _ (w : TextOutput) (start : Place) (m : machine_at start w.escape_sequence ≡ machine_of w) (k : start.at ≡ w.kept) (p cs : List ℕ) where
   same_run : run_in w.mode p (machine_at start w.escape_sequence) cs ≡ run_in w.mode p (machine_of w) cs
   same_run = rw m refl
@@ -93,21 +106,14 @@ module _ (w : TextOutput) (start : Place) (m : machine_at start w.escape_sequenc
 
   module _ (x : Result Place Stopped) (escape after places : List ℕ)
       (led : progress x escape after ≡ stored start.at places (run_in w.mode p (machine_at start w.escape_sequence) cs)) where
-    ended : end_of p w.mode w.expect_starter (progress x escape after) ≡ written_by w p cs places
+    pub place_ends : end_of p w.mode w.expect_starter (progress x escape after) ≡ written_by w p cs places
     unfolding written_by
-    ended = ap (end_of p w.mode w.expect_starter) led ∙ rw (same_run, k) (sym (ended_stored p w (run_in w.mode p (machine_of w) cs) places))
+    place_ends = ap (end_of p w.mode w.expect_starter) led ∙ rw (same_run, k) (sym (ended_stored p w (run_in w.mode p (machine_of w) cs) places))
 
-    -- the end looks at the first place alone
-    by_first : (y : Result Place Stopped) (first : ℕ) → first ≡ get_or after 0 0 →
-        record { given = (end_of p w.mode w.expect_starter (progress y escape (first ∷ []))).given; places = after }
-        ≡ end_of p w.mode w.expect_starter (progress y escape after)
-    by_first (Ok next) first f = rw f refl
-    by_first (Err s) first f = refl
-
-    pub place_ends : (r : Written) (first : ℕ) →
+    pub place_ends_written : (r : Written) (first : ℕ) →
         written_outcome r (first ∷ []) ≡ end_of p w.mode w.expect_starter (progress x escape (first ∷ [])) →
         first ≡ get_or after 0 0 → written_outcome r after ≡ written_by w p cs places
-    place_ends r first e f = ap (λ (o : Outcome). record { given = o.given; places = after }) e ∙ by_first x first f ∙ ended
+    place_ends_written r first e f = end_anywhere p w.mode w.expect_starter r x escape first e after f ∙ place_ends
 
 -- ---- what a write of bytes returns
 pub taken : (x : WrittenBytes) (y : Written) (n : ℕ) (places bytes : List ℕ) → x.used ≡ cond (succeeds (wrote_numbers y.answer)) n 0 →

@@ -1,5 +1,5 @@
--- What the steps of a write answer one by one. Document 01, "Characters go out" and "Refused ..". Cited by private functions, and by
--- public ones that are inner: only `basic_text` calls them; `write_str` and `write` cite `text_output` alone.
+-- What the steps of a write answer one by one. Document 01, "Characters go out" and "Refused ..". Cited by private functions, by public
+-- ones that are inner, which only `basic_text` calls, and by `refused_write`; `write_str` and `write` cite `text_output` alone.
 use Rattle.std.specs.Prelude.{ℕ, ◌+◌, Bool, true, false, cond, not, ◌&&◌, List, [], ◌∷◌, eqb, ltb, length, Result, Ok, Err}
 use Rattle.std.proofs.lemmas.List.Edits.{sets}
 use Rattle.text_utils.specs.Classes.{basic_text_start}
@@ -18,6 +18,7 @@ use Rattle.text_output.specs.Kept.{kept_after}
 use Rattle.text_output.specs.Step.{Stepped, goes, stops, and_then, steps_of}
 use Rattle.text_output.specs.Write.{checked, put_crlf, hand_out}
 use Rattle.text_output_write.specs.declared.store.Stopped.{Stopped}
+use Rattle.text_output_write.specs.declared.refusal.RefusedWrite.{RefusedWrite}
 
 -- ---- what steps change, as a place and the held characters
 unfoldable pub machine_at : Place → List ℕ → Machine
@@ -108,3 +109,8 @@ end_of p mode expect x =
       given = cond x.going (hand_out p mode expect x.machine x.at x.places) (kept_by mode expect x);
       places = x.places;
     }
+
+-- ---- a write that is refused before its steps
+-- what one refused by a number answers and leaves, whichever number
+abbrev pub refused_given : RefusedWrite → Given
+refused_given r = record { numbers = r.number ∷ []; abandon = r.abandon; next = r.next }

@@ -107,7 +107,9 @@ fn keep(mode: Mode, expect_starter: bool, stopped: Stopped, escape: [u32; 64]) -
     }
 }
 
-// How a write ends, by where its steps led and the first place after them. Inner, as `start_or_none`.
+// How a write ends, by where its steps led and the first place after them. Inner, as `start_or_none`. Compiled into its callers, so that
+// no record is copied on the way, for which an archive for C would need a function from outside.
+#[inline(always)]
 pub fn end_write(
     page: &[u32],
     mode: Mode,

@@ -5,7 +5,8 @@
 //     store.rt     the stores of a step
 //     run.rt       the steps of a write
 //     end.rt       how a write ends
-// Of these, what is `pub use` is for a write into other places than numbers. Inner.
+// Of these, what is `pub use` is for a write into other places than numbers. Inner, but for `write_refusal` and `refused_write`: the
+// refusals by number, whichever number.
 #![tactic(auto)]
 
 mod end;
@@ -21,7 +22,9 @@ ghost use Rattle.text_output.specs.Write.{write_str_of, succeeds, write_of};
 use end::first_of;
 pub use end::{end_write, place_of};
 use refusal::chars_refusal;
-pub use refusal::{bytes_refusal, refused_write, write_refusal};
+pub use refusal::{
+    RefusedWrite, bytes_refusal, may_write, refused_by, refused_write, write_refusal,
+};
 pub use run::{Turned, finish, turn};
 use run::{run, run_bytes};
 use scalars::valid_prefix;
@@ -33,8 +36,8 @@ use text_output::{TextOutput, Written, WrittenBytes};
 pub fn write_str(w: TextOutput, page: &[u32], chars: &[u32], out: &mut [u32]) -> Written
     ensures { written_outcome result out.new ≡ write_str_of w page.now chars.now out.old }
 {
-    if let Err(why) = write_refusal(w, page, chars_refusal(chars), chars.len(), out.len()) {
-        return refused_write(w, why);
+    if let Err(why) = may_write(w, page, chars_refusal(chars), chars.len(), out.len()) {
+        return refused_by(w, why);
     }
     let mode = w.mode;
     let mut escape = w.escape_sequence;
@@ -50,8 +53,8 @@ pub fn write(w: TextOutput, page: &[u32], bytes: &[u8], out: &mut [u32]) -> Writ
 {
     let prefix = valid_prefix(bytes);
     let values = bytes_refusal(bytes.len(), prefix.chars);
-    if let Err(why) = write_refusal(w, page, values, prefix.chars, out.len()) {
-        return taking(prefix.bytes, refused_write(w, why));
+    if let Err(why) = may_write(w, page, values, prefix.chars, out.len()) {
+        return taking(prefix.bytes, refused_by(w, why));
     }
     let mode = w.mode;
     let mut escape = w.escape_sequence;

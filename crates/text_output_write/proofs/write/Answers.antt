@@ -3,15 +3,15 @@ use Rattle.std.proofs.Common.{◌∙◌, ap, length}
 use Rattle.scalars.specs.Utf8.{chars_of}
 use Rattle.scalars.specs.declared.utf8.Prefix.{Prefix}
 use Rattle.text_output.specs.Write.{taking}
-use Rattle.text_output_write.proofs.Entries.{Through, let_through, bytes_refused, bytes_written, place_sound, place_room, place_ends, taken}
+use Rattle.text_output_write.proofs.Entries.{Through, let_through, bytes_refused, bytes_written, place_sound, place_room, place_ends_written, taken}
 use Rattle.text_output_write.proofs.write.Goals as goal
 
 pub returns-in-Err : goal.returns-in-Err
 returns-in-Err c =
     let a = c.args in
     let t = c.taking.ensures in
-    taken c.taking.result c.refused_write.result _ a.out.now a.bytes.now t.used_value t.answer_value.0 t.answer_value.1 (ap (λ (q : Prefix). q.bytes) c.valid_prefix-prefix.ensures)
-    ∙ bytes_refused a.w a.page.now c.in-Err.why c.refused_write.result c.refused_write.ensures a.out.now a.bytes.now
+    taken c.taking.result c.refused_by.result _ a.out.now a.bytes.now t.used_value t.answer_value.0 t.answer_value.1 (ap (λ (q : Prefix). q.bytes) c.valid_prefix-prefix.ensures)
+    ∙ bytes_refused a.w a.page.now c.in-Err.why c.refused_by.result c.refused_by.ensures a.out.now a.bytes.now
     (rw (c.bytes_refusal-values.ensures, c.valid_prefix-prefix.ensures) at c.in-Err.ensures)
 
 pub run_bytes-pushed-requires : goal.run_bytes-pushed-requires
@@ -40,5 +40,5 @@ returns c =
     let t = c.taking-2.ensures in
     taken c.taking-2.result c.end_write-written.result _ _ a.bytes.now t.used_value t.answer_value.0 t.answer_value.1 (ap (λ (q : Prefix). q.bytes) c.valid_prefix-prefix.ensures)
     ∙ ap (taking a.bytes.now)
-    (place_ends a.w _ p.escape_sequence_value p.at_value a.page.now (chars_of a.bytes.now) _ _ _ _ c.run_bytes-pushed.ensures c.end_write-written.result _ c.end_write-written.ensures c.first_of-first.ensures)
+    (place_ends_written a.w _ p.escape_sequence_value p.at_value a.page.now (chars_of a.bytes.now) _ _ _ _ c.run_bytes-pushed.ensures c.end_write-written.result _ c.end_write-written.ensures c.first_of-first.ensures)
     ∙ bytes_written a.w a.page.now a.out.now a.bytes.now (rw (c.bytes_refusal-values.ensures, c.valid_prefix-prefix.ensures) at c.in_default.ensures)

@@ -1,12 +1,12 @@
 -- A write is refused as the definition says, or its steps and its end are the write.
 use Rattle.std.proofs.Common.{◌∙◌, length}
-use Rattle.text_output_write.proofs.Entries.{Through, let_through, str_refused, str_written, place_sound, place_room, place_ends}
+use Rattle.text_output_write.proofs.Entries.{Through, let_through, str_refused, str_written, place_sound, place_room, place_ends_written}
 use Rattle.text_output_write.proofs.write_str.Goals as goal
 
 pub returns-in-Err : goal.returns-in-Err
 returns-in-Err c =
     let a = c.args in
-    str_refused a.w a.page.now c.in-Err.why c.refused_write.result c.refused_write.ensures a.out.now a.chars.now (rw c.chars_refusal.ensures at c.in-Err.ensures)
+    str_refused a.w a.page.now c.in-Err.why c.refused_by.result c.refused_by.ensures a.out.now a.chars.now (rw c.chars_refusal.ensures at c.in-Err.ensures)
 
 pub run-pushed-requires : goal.run-pushed-requires
 run-pushed-requires c =
@@ -29,5 +29,5 @@ pub returns : goal.returns
 returns c =
     let a = c.args in
     let p = c.place_of.ensures in
-    place_ends a.w _ p.escape_sequence_value p.at_value a.page.now a.chars.now _ _ _ _ c.run-pushed.ensures c.end_write.result _ c.end_write.ensures c.first_of-first.ensures
+    place_ends_written a.w _ p.escape_sequence_value p.at_value a.page.now a.chars.now _ _ _ _ c.run-pushed.ensures c.end_write.result _ c.end_write.ensures c.first_of-first.ensures
     ∙ str_written a.w a.page.now a.out.now a.chars.now (rw c.chars_refusal.ensures at c.in_default.ensures)
