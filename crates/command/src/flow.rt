@@ -168,7 +168,7 @@ impl<'a> Flow<'a> {
 
     // Reads to the end. A proved loop has to end, and nothing says that the input does: so the turns are up to a number that no
     // run reaches.
-    fn all(&mut self) -> Result<(), Failure> {
+    fn all(&mut self, system: Option<HostRuntime>) -> Result<(), Failure> {
         let mut block = [0; BLOCK];
         let mut out = [0; ROOM];
         for _ in 0..u64::MAX {
@@ -176,17 +176,17 @@ impl<'a> Flow<'a> {
                 return Ok(());
             }
             if let Some(progress) = &mut self.progress {
-                progress.show_each_second(self.sums.bytes_read);
+                progress.show_each_second(system, self.sums.bytes_read);
             }
         }
         Err(Failure::Failed)
     }
 
     // Says what is to be said at the end.
-    fn say_end(&self, ended: Result<(), Failure>) {
+    fn say_end(&self, system: Option<HostRuntime>, ended: Result<(), Failure>) {
         if ended.is_ok() {
             if let Some(progress) = self.progress {
-                progress.end(self.sums.bytes_read);
+                progress.end(system, self.sums.bytes_read);
             }
             if self.wish.summary {
                 messages::summary(self.ways.input.errors, self.sums, self.first);
@@ -214,8 +214,8 @@ pub fn clean(
         None
     };
     let mut flow = Flow::new(ways, page, wish, progress);
-    let ended = flow.all();
-    flow.say_end(ended);
+    let ended = flow.all(system);
+    flow.say_end(system, ended);
     ended?;
     let about = flow.ways.output;
     flow.ways.to.settle().map_err(|why| about.failed(&why))

@@ -4,16 +4,15 @@ use crate::messages::About;
 use crate::names;
 use command_bytes::front::up_to;
 use command_bytes::numbers::{ParseError, numbers};
+use std::fs::File;
 use std::io::Read;
 use std::{fmt, io};
 
 // The numbers of the longest page that is accepted: 2 sizes, and twice the ranges, 2,048 of each kind.
 pub const NUMBERS: usize = 8194;
 
-// The most bytes of such a file, and the room for it: a byte more is a file that is too long.
+// The most bytes of such a file.
 const TEXT: usize = 65536;
-
-const ROOM: usize = TEXT + 1;
 
 // Why a file has no page.
 #[derive(Clone, Copy, Debug, PartialEq, Eq, Hash)]
@@ -40,18 +39,32 @@ impl fmt::Display for NoPage {
     }
 }
 
-// The bytes of a file, which stand in the room, as far as there is room.
-fn text_of<'a>(rt: &HostRuntime, name: &[u8], room: &'a mut [u8]) -> io::Result<&'a [u8]> {
-    let mut file = names::open(rt, name)?.take(room.len() as u64);
-    let n = io::copy(&mut file, &mut &mut *room)?;
-    Ok(up_to(room, n as usize))
+// Fills the room from a file, as far as the file goes, and answers how many bytes came. It reads into the room itself: std's copy would
+// blank a buffer of its own before each read.
+fn fill(file: &mut File, room: &mut [u8]) -> io::Result<usize> {
+    let mut n = 0;
+    while n < room.len() {
+        match file.read(&mut room[n..])? {
+            0 => break,
+            got => n += got,
+        }
+    }
+    Ok(n)
 }
 
-// The page of a text, which stands in the first places of out.
-fn page_of<'a>(text: &[u8], out: &'a mut [u32]) -> Result<&'a [u32], NoPage> {
-    if TEXT < text.len() {
-        return Err(NoPage::TooLong);
+// The bytes of a file, which stand in the room; none where more follow. It is read once more after its end too: a terminal may go on.
+fn text_of<'a>(rt: &HostRuntime, name: &[u8], room: &'a mut [u8]) -> io::Result<Option<&'a [u8]>> {
+    let mut file = names::open(rt, name)?;
+    let n = fill(&mut file, room)?;
+    match file.read(&mut [0])? {
+        0 => Ok(Some(up_to(room, n))),
+        _ => Ok(None),
     }
+}
+
+// The page of a text, where there is one, which stands in the first places of out.
+fn page_of<'a>(text: Option<&[u8]>, out: &'a mut [u32]) -> Result<&'a [u32], NoPage> {
+    let text = text.ok_or(NoPage::TooLong)?;
     let n = numbers(text, out)?;
     let page = up_to(out, n);
     if !page::is_accepted(page) {
@@ -65,7 +78,7 @@ pub fn read<'a>(rt: &HostRuntime, i: usize, out: &'a mut [u32]) -> Result<&'a [u
     let mut path = names::room();
     let name = names::argument(rt, i, &mut path);
     let about = About::new(rt.stderr(), name);
-    let mut room = [0; ROOM];
+    let mut room = [0; TEXT];
     match text_of(rt, name, &mut room) {
         Ok(text) => page_of(text, out).map_err(|why| about.no_page(why)),
         Err(why) => {

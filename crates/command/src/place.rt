@@ -98,23 +98,25 @@ impl Fault {
     }
 }
 
+// What is said of it, behind the name of the input.
 impl fmt::Display for Fault {
     fn fmt<W: fmt::Write>(&self, f: &mut fmt::Formatter<W>) -> fmt::Result {
         let line = self.line;
         let byte = self.byte;
         match self.kind {
-            Kind::Lost => write!(
+            Kind::Lost => writeln!(
                 f,
-                "line {line}: a line end stands inside an escape sequence"
+                ": line {line}: a line end stands inside an escape sequence"
             ),
             Kind::NoUtf8 { count, last } => {
                 let [a, b, c] = last;
-                write!(f, "line {line}, byte {byte}: bytes that are no UTF-8 (")?;
+                write!(f, ": line {line}, byte {byte}: bytes that are no UTF-8 (")?;
                 match count {
-                    0 | 1 => write!(f, "{c:02X})"),
-                    2 => write!(f, "{b:02X} {c:02X})"),
-                    _ => write!(f, "{a:02X} {b:02X} {c:02X})"),
-                }
+                    0 | 1 => write!(f, "{c:02X}"),
+                    2 => write!(f, "{b:02X} {c:02X}"),
+                    _ => write!(f, "{a:02X} {b:02X} {c:02X}"),
+                }?;
+                f.write_str(")\nWithout --strict they become U+FFFD.\n")
             }
         }
     }

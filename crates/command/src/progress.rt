@@ -1,14 +1,14 @@
 // The line of the progress, on standard error.
+use crate::messages::Pieces;
 use crate::ways::Input;
 use std::io;
-use std::io::Stderr;
 use std::time::Clock;
 
+// The system's clock is handed in at each call, where there is one to ask, and not kept: so the library for C, which has none, needs no
+// function for it.
 #[derive(Clone, Copy)]
 pub struct Progress {
-    errors: Stderr,
-    // The system's clock, where there is one to ask.
-    system: Option<HostRuntime>,
+    errors: Pieces,
     // When the clean began, in seconds.
     start: Option<u64>,
     // How many bytes the input has, where that is known.
@@ -35,14 +35,13 @@ impl Progress {
     // Begins the clock. An input that has places tells its size, and is set back to the place where it stands.
     pub fn begin(
         system: Option<HostRuntime>,
-        errors: Stderr,
+        errors: Pieces,
         from: &mut Input,
     ) -> io::Result<Self> {
         let start = seconds(system);
         let size = from.size(system)?;
         Ok(Progress {
             errors,
-            system,
             start,
             size,
             shown: None,
@@ -50,42 +49,42 @@ impl Progress {
     }
 
     // How many million bytes were read in a second, where one has passed.
-    fn speed(&self, read: u64) -> Option<u64> {
-        let passed = seconds(self.system)?.checked_sub(self.start.unwrap_or(0))?;
+    fn speed(&self, system: Option<HostRuntime>, read: u64) -> Option<u64> {
+        let passed = seconds(system)?.checked_sub(self.start.unwrap_or(0))?;
         (read / 1_000_000).checked_div(passed)
     }
 
     // Shows how many bytes are read, over the line before.
-    fn show(&self, read: u64) {
-        let _ = eprint!(self.errors; "\ryeshorit: {read} bytes");
+    fn show(&self, system: Option<HostRuntime>, read: u64) {
+        write!(self.errors, "\ryeshorit: {read} bytes");
         if let Some(size) = self.size {
-            let _ = eprint!(self.errors; ", {} %", share(read, size));
+            write!(self.errors, ", {} %", share(read, size));
         }
-        if let Some(speed) = self.speed(read) {
-            let _ = eprint!(self.errors; ", {speed} MB/s");
+        if let Some(speed) = self.speed(system, read) {
+            write!(self.errors, ", {speed} MB/s");
         }
-        let _ = eprint!(self.errors; "   ");
+        write!(self.errors, "   ");
     }
 
     // The same, once a second.
-    pub fn show_each_second(&mut self, read: u64) {
-        let now = seconds(self.system);
+    pub fn show_each_second(&mut self, system: Option<HostRuntime>, read: u64) {
+        let now = seconds(system);
         if now != self.shown {
-            self.show(read);
+            self.show(system, read);
             self.shown = now;
         }
     }
 
     // Shows it for the last time.
-    pub fn end(&self, read: u64) {
-        self.show(read);
-        let _ = eprintln!(self.errors);
+    pub fn end(&self, system: Option<HostRuntime>, read: u64) {
+        self.show(system, read);
+        writeln!(self.errors);
     }
 
     // Ends the line, where it was shown, so that a message has one of its own.
     pub fn end_line(&self) {
         if self.shown.is_some() {
-            let _ = eprintln!(self.errors);
+            writeln!(self.errors);
         }
     }
 }
