@@ -9,23 +9,30 @@ mod session;
 
 use input::{Input, Line};
 use replay_words::answers::Answers;
+use replay_words::buffers::Buffers;
+use replay_words::{NUMBERS, PLACES};
 use session::Session;
-use std::alloc::AllocError;
 
 // A proved loop has to end, and nothing says that the input does: so the lines are counted, up to a number that no run reaches.
-fn main(rt: HostRuntime) -> Result<(), AllocError> {
-    let alloc = rt.alloc();
+fn main() {
     let mut input = Input::new();
     let mut line = Line::new();
-    let mut session = Session::new(alloc)?;
+    let mut session = Session::new();
     let mut answers = Answers::new();
+    let mut numbers = [0; NUMBERS];
+    let mut places = [0; PLACES];
+    let mut bytes = [0; PLACES];
     for _ in 0..u64::MAX {
         let more = input.read_line(&mut line);
-        session.answer(alloc, &line, &mut answers);
+        let lent = Buffers {
+            numbers: &mut numbers,
+            places: &mut places,
+            bytes: &mut bytes,
+        };
+        session.answer(&line, lent, &mut answers);
         if !more {
             break;
         }
     }
     answers.flush();
-    Ok(())
 }

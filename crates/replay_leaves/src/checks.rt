@@ -1,8 +1,8 @@
 // The check of a run: `A check`.
 use crate::outcomes::Refused;
 use check_run::FaultKind;
-use replay_words::NUMBERS;
 use replay_words::answers::Answers;
+use replay_words::buffers::Buffers;
 use replay_words::why::Why;
 use replay_words::words::Words;
 
@@ -17,9 +17,9 @@ fn word(kind: FaultKind) -> &'static str {
 }
 
 // `A check c c ..`: `yes`, `fault PLACE KIND`, or the refusal.
-pub fn check(words: Words, page: &[u32], out: &mut Answers) -> Result<(), Why> {
-    let run = words.numbers(NUMBERS)?;
-    match check_run::check_run(page, &run) {
+pub fn check(words: Words, page: &[u32], lent: Buffers, out: &mut Answers) -> Result<(), Why> {
+    let run = words.numbers(lent.numbers)?;
+    match check_run::check_run(page, run) {
         Ok(None) => out.line("yes"),
         Ok(Some(fault)) => out.line(format_args!("fault {:x} {}", fault.place, word(fault.kind))),
         Err(why) => out.line(Refused(why)),

@@ -20,22 +20,28 @@ mod units;
 pub use outcomes::{Refused, stored};
 pub use reason::Unwritable;
 use replay_words::answers::Answers;
+use replay_words::buffers::Buffers;
 use replay_words::why::Why;
 use replay_words::words::Words;
 
 // Answers a line whose words are none of another crate's operations.
-pub fn operate(mut words: Words, page: &[u32], out: &mut Answers) -> Result<(), Why> {
+pub fn operate(
+    mut words: Words,
+    page: &[u32],
+    lent: Buffers,
+    out: &mut Answers,
+) -> Result<(), Why> {
     match (words.next(), words.next()) {
         (Some(b"L"), Some(b"replace")) => chars::replacement(words, out),
         (Some(b"L"), Some(b"check")) => chars::check(words, out),
         (Some(b"L"), Some(b"start")) => chars::start(words, page, out),
         (Some(b"L"), Some(b"end")) => chars::end(words, out),
-        (Some(b"L"), Some(b"utf8")) => runs::utf8(words, out),
-        (Some(b"L"), Some(b"isolate")) => runs::isolate(words, page, out),
-        (Some(b"A"), Some(b"check")) => checks::check(words, page, out),
-        (Some(b"U16"), Some(b"dec")) => units::decode(words, out),
-        (Some(b"U16"), Some(b"enc")) => units::encode(words, out),
-        (Some(b"G"), Some(b"fill")) => load::fill(words, out),
+        (Some(b"L"), Some(b"utf8")) => runs::utf8(words, lent, out),
+        (Some(b"L"), Some(b"isolate")) => runs::isolate(words, page, lent, out),
+        (Some(b"A"), Some(b"check")) => checks::check(words, page, lent, out),
+        (Some(b"U16"), Some(b"dec")) => units::decode(words, lent, out),
+        (Some(b"U16"), Some(b"enc")) => units::encode(words, lent, out),
+        (Some(b"G"), Some(b"fill")) => load::fill(words, lent, out),
         (Some(b"G"), Some(b"back")) => load::back(words, out),
         _ => Err(Why::Word),
     }

@@ -2,11 +2,12 @@
 use crate::outcomes::{Refused, stored};
 use common::Refusal;
 use replay_words::answers::Answers;
+use replay_words::buffers::Buffers;
 use replay_words::places::blank;
 use replay_words::stored::Stored;
 use replay_words::why::Why;
+use replay_words::words;
 use replay_words::words::Words;
-use replay_words::{NUMBERS, words};
 use std::fmt;
 use std::fmt::Display;
 use utf16::{ByteOrder, DecodeError};
@@ -37,34 +38,32 @@ fn byte_order(words: &mut Words) -> Result<ByteOrder, Why> {
 }
 
 // `U16 dec le|be ROOM b b ..`, with the room in characters.
-pub fn decode(mut words: Words, out: &mut Answers) -> Result<(), Why> {
+pub fn decode(mut words: Words, lent: Buffers, out: &mut Answers) -> Result<(), Why> {
     let order = byte_order(&mut words)?;
-    let given = words.numbers(NUMBERS)?;
-    let [size, numbers @ ..] = given.as_slice() else {
+    let Buffers {
+        numbers,
+        places,
+        bytes,
+    } = lent;
+    let [size, numbers @ ..] = words.numbers(numbers)? else {
         return Err(Why::Number);
     };
-    let mut places = blank(words.alloc, *size)?;
-    let bytes = words::bytes(words.alloc, numbers)?;
-    let outcome = utf16::decode_utf16(order, &bytes, &mut places).map_err(Unread);
-    out.line(Stored {
-        places: &places,
-        outcome,
-    });
+    let places = blank(places, *size)?;
+    let bytes = words::bytes(numbers, bytes)?;
+    let outcome = utf16::decode_utf16(order, bytes, places).map_err(Unread);
+    out.line(Stored { places, outcome });
     Ok(())
 }
 
 // `U16 enc le|be ROOM c c ..`, with the room in bytes.
-pub fn encode(mut words: Words, out: &mut Answers) -> Result<(), Why> {
+pub fn encode(mut words: Words, lent: Buffers, out: &mut Answers) -> Result<(), Why> {
     let order = byte_order(&mut words)?;
-    let given = words.numbers(NUMBERS)?;
-    let [size, chars @ ..] = given.as_slice() else {
+    let Buffers { numbers, bytes, .. } = lent;
+    let [size, chars @ ..] = words.numbers(numbers)? else {
         return Err(Why::Number);
     };
-    let mut places = blank(words.alloc, *size)?;
-    let outcome = stored(utf16::encode_utf16(order, chars, &mut places));
-    out.line(Stored {
-        places: &places,
-        outcome,
-    });
+    let places = blank(bytes, *size)?;
+    let outcome = stored(utf16::encode_utf16(order, chars, places));
+    out.line(Stored { places, outcome });
     Ok(())
 }

@@ -1,8 +1,8 @@
 // The operations `S ..`: calls on the current scanner.
 use basic_text_numbers::state_number;
 use replay_leaves::stored;
-use replay_words::NUMBERS;
 use replay_words::answers::Answers;
+use replay_words::buffers::Buffers;
 use replay_words::places::blank;
 use replay_words::stored::Stored;
 use replay_words::why::Why;
@@ -62,15 +62,16 @@ impl Scanner {
         &mut self,
         mut words: Words,
         page: &[u32],
+        lent: Buffers,
         out: &mut Answers,
     ) -> Result<(), Why> {
         match words.next() {
             Some(b"new") => self.renew(words, out),
             Some(b"count") => self.count(words, out),
-            Some(b"ask") => self.ask(words, page, out),
-            Some(b"scan") => self.take(words, page, out, TextInput::scan),
-            Some(b"commit") => self.take(words, page, out, commit),
-            Some(b"fin") => self.finish(words, out),
+            Some(b"ask") => self.ask(words, page, lent, out),
+            Some(b"scan") => self.take(words, page, lent, out, TextInput::scan),
+            Some(b"commit") => self.take(words, page, lent, out, commit),
+            Some(b"fin") => self.finish(words, lent, out),
             _ => Err(Why::Word),
         }
     }
@@ -93,9 +94,8 @@ impl Scanner {
     }
 
     // `S ask OPT c c ..`, which leaves the record.
-    fn ask(&self, words: Words, page: &[u32], out: &mut Answers) -> Result<(), Why> {
-        let given = words.numbers(NUMBERS)?;
-        let [options, chunk @ ..] = given.as_slice() else {
+    fn ask(&self, words: Words, page: &[u32], lent: Buffers, out: &mut Answers) -> Result<(), Why> {
+        let [options, chunk @ ..] = words.numbers(lent.numbers)? else {
             return Err(Why::Number);
         };
         let price = ask(self.record, page, options_of(*options)?, chunk);
@@ -108,32 +108,43 @@ impl Scanner {
     }
 
     // `S scan OPT ROOM c c ..` and `S commit OPT ROOM c c ..`
-    fn take<F>(&mut self, words: Words, page: &[u32], out: &mut Answers, call: F) -> Result<(), Why>
+    fn take<F>(
+        &mut self,
+        words: Words,
+        page: &[u32],
+        lent: Buffers,
+        out: &mut Answers,
+        call: F,
+    ) -> Result<(), Why>
     where
         F: FnOnce(TextInput, &[u32], Options, &[u32], &mut [u32]) -> Scanned,
         requires { F.IsAlwaysCallable call }
     {
-        let given = words.numbers(NUMBERS)?;
-        let [options, size, chunk @ ..] = given.as_slice() else {
+        let Buffers {
+            numbers,
+            places,
+            ..
+        } = lent;
+        let [options, size, chunk @ ..] = words.numbers(numbers)? else {
             return Err(Why::Number);
         };
         let options = options_of(*options)?;
-        let mut places = blank(words.alloc, *size)?;
-        let scanned = call(self.record, page, options, chunk, &mut places);
-        self.came(scanned, &places, out);
+        let places = blank(places, *size)?;
+        let scanned = call(self.record, page, options, chunk, places);
+        self.came(scanned, places, out);
         Ok(())
     }
 
     // `S fin p ROOM` and `S fin e ROOM`
-    fn finish(&mut self, mut words: Words, out: &mut Answers) -> Result<(), Why> {
+    fn finish(&mut self, mut words: Words, lent: Buffers, out: &mut Answers) -> Result<(), Why> {
         let eof = match words.next() {
             Some(b"p") => false,
             Some(b"e") => true,
             _ => return Err(Why::Word),
         };
-        let mut places = blank(words.alloc, words.one_number()?)?;
-        let scanned = self.record.finish(eof, &mut places);
-        self.came(scanned, &places, out);
+        let places = blank(lent.places, words.one_number()?)?;
+        let scanned = self.record.finish(eof, places);
+        self.came(scanned, places, out);
         Ok(())
     }
 

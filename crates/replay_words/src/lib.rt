@@ -4,11 +4,13 @@
 //     why.rt       why a line is no operation
 //     answers.rt   the answers that wait to be written
 //     listed.rt    lists of numbers and of bytes in an answer
+//     buffers.rt   the memory that an operation is lent
 //     places.rt    the places that are lent to a call, and whether it left them as they were
 //     stored.rt    the answer of a call that stores in them
 #![tactic(auto)]
 
 pub mod answers;
+pub mod buffers;
 pub mod listed;
 pub mod places;
 pub mod stored;

@@ -1,12 +1,11 @@
 // The places that are lent to a call. A blank place holds EEEEEEEE before it, and a blank byte EE, so that one that the call wrote is
 // seen.
-ghost use Rattle.std.specs.Prelude.{◌≡◌, ◌≤◌, IfOk, drop, take, vec_len};
+ghost use Rattle.std.specs.Prelude.{◌≡◌, ◌≤◌, IfOk, drop, length, take};
 ghost use Rattle.replay_words.specs.Blank.{are_blank};
 
 use crate::PLACES;
 use crate::listed::{List, Pairs};
 use crate::why::Why;
-use std::alloc::Global;
 use std::fmt;
 use std::fmt::Display;
 
@@ -52,11 +51,13 @@ pub fn room(n: u32) -> Result<usize, Why>
     Ok(room)
 }
 
-// So many blank places.
-pub fn blank<T: Place>(alloc: Global, n: u32) -> Result<Vec<T>, Why>
-    ensures { IfOk result (λ places. vec_len places ≡ n) }
+// The first n of some places, which are then blank.
+pub fn blank<T: Place>(places: &mut [T], n: u32) -> Result<&mut [T], Why>
+    ensures { IfOk result (λ blank. length blank.now ≡ n) }
 {
-    Ok(vec![in alloc; T::BLANK; room(n)?]?)
+    let blank = places.get_mut(..room(n)?).ok_or(Why::Room)?;
+    blank.fill_with(|| T::BLANK);
+    Ok(blank)
 }
 
 // Whether every place from k on is blank.

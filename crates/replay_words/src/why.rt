@@ -1,5 +1,4 @@
 // Why a line is no operation.
-use std::alloc::{AllocError, AllocFailed};
 use std::error::Error;
 use std::fmt;
 use std::fmt::Display;
@@ -15,7 +14,6 @@ pub enum Why {
     Options,
     Pattern,
     Held,
-    Memory,
 }
 
 // The whole answer: `? ` and a word.
@@ -31,22 +29,9 @@ impl Display for Why {
             Why::Options => "options",
             Why::Pattern => "pattern",
             Why::Held => "held",
-            Why::Memory => "memory",
         };
         write!(f, "? {word}")
     }
 }
 
 impl Error for Why {}
-
-impl From<AllocError> for Why {
-    fn from(_e: AllocError) -> Why {
-        Why::Memory
-    }
-}
-
-impl<T: Drop> From<AllocFailed<T>> for Why {
-    fn from(_e: AllocFailed<T>) -> Why {
-        Why::Memory
-    }
-}

@@ -2,23 +2,18 @@
 ghost use Rattle.std.specs.Prelude.{◌<◌, ◌+◌, IfSome, length, option_map, unwrap_or};
 ghost use Rattle.std.specs.Iterator.{at_most};
 
+use crate::places::front;
 use crate::why::Why;
-use std::alloc::Global;
 
-// The words of a line that are left, and the allocator for what is made of them. Single blanks part them, so that an empty word stands
-// between two blanks.
+// The words of a line that are left. Single blanks part them, so that an empty word stands between two blanks.
 #[derive(Clone, Copy)]
 pub struct Words<'a> {
-    pub alloc: Global,
     rest: Option<&'a [u8]>,
 }
 
 impl<'a> Words<'a> {
-    pub fn of(alloc: Global, line: &'a [u8]) -> Self {
-        Words {
-            alloc,
-            rest: Some(line),
-        }
+    pub fn of(line: &'a [u8]) -> Self {
+        Words { rest: Some(line) }
     }
 
     // That none is left, or else this is why.
@@ -54,27 +49,31 @@ impl<'a> Words<'a> {
         Ok((value, is_on))
     }
 
-    // The numbers that are left, so many at most.
-    pub fn numbers(self, most: usize) -> Result<Vec<u32>, Why> {
-        let mut numbers = Vec::new(self.alloc);
+    // The numbers that are left, stored in places: as many as these at most.
+    pub fn numbers<'b>(self, places: &'b mut [u32]) -> Result<&'b [u32], Why> {
+        let mut n = 0;
         for word in self {
-            if numbers.len() == most {
-                return Err(Why::Many);
-            }
-            numbers.push(number(word)?)?;
+            let place = places.get_mut(n).ok_or(Why::Many)?;
+            *place = number(word)?;
+            n += 1;
         }
-        Ok(numbers)
+        Ok(front(places, n))
     }
 
-    // The next word as bytes, each a pair of digits: at least one.
-    pub fn pairs(&mut self) -> Result<Vec<u8>, Why> {
+    // How many bytes the next word is, each a pair of digits: at least one. They are stored in places, as far as these reach.
+    pub fn pairs(&mut self, places: &mut [u8]) -> Result<usize, Why> {
         let word = self.next().ok_or(Why::Pattern)?;
         if word.is_empty() {
             return Err(Why::Pattern);
         }
-        word.chunks(2)
-            .map(|digits| byte(digits).ok_or(Why::Pattern))
-            .try_collect(self.alloc)
+        let mut free = places.iter_mut();
+        for digits in word.chunks(2) {
+            let byte = byte(digits).ok_or(Why::Pattern)?;
+            if let Some(place) = free.next() {
+                *place = byte;
+            }
+        }
+        Ok(word.len() / 2)
     }
 }
 
@@ -126,10 +125,11 @@ fn byte(digits: &[u8]) -> Option<u8> {
     Some((digit(*high)? * 16 + digit(*low)?) as u8)
 }
 
-// Numbers as bytes.
-pub fn bytes(alloc: Global, numbers: &[u32]) -> Result<Vec<u8>, Why> {
-    numbers
-        .iter()
-        .map(|n| u8::try_from(*n).map_err(|_| Why::Byte))
-        .try_collect(alloc)
+// Numbers as bytes, stored in places: as many as these at most.
+pub fn bytes<'b>(numbers: &[u32], places: &'b mut [u8]) -> Result<&'b [u8], Why> {
+    let bytes = places.get_mut(..numbers.len()).ok_or(Why::Many)?;
+    for (byte, n) in bytes.iter_mut().zip(numbers) {
+        *byte = u8::try_from(*n).map_err(|_| Why::Byte)?;
+    }
+    Ok(bytes)
 }

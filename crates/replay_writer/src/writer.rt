@@ -3,12 +3,13 @@ use crate::outcomes::{Failure, done, handed_out};
 use crate::places::is_same;
 use basic_text_numbers::writer_state_number;
 use replay_words::answers::Answers;
+use replay_words::buffers::Buffers;
 use replay_words::listed::List;
 use replay_words::places::{Place, front, room};
 use replay_words::stored::Clean;
 use replay_words::why::Why;
 use replay_words::words::Words;
-use replay_words::{NUMBERS, PLACES, words};
+use replay_words::{PLACES, words};
 use std::fmt;
 use std::fmt::Display;
 use text_output::TextOutput;
@@ -46,7 +47,7 @@ impl Display for Used {
     }
 }
 
-#[derive(Drop)]
+#[derive(Clone, Copy)]
 pub struct Writer {
     record: TextOutput,
     // The true number of held characters, where the record claims another.
@@ -70,12 +71,13 @@ impl Writer {
         &mut self,
         mut words: Words,
         page: &[u32],
+        lent: Buffers,
         out: &mut Answers,
     ) -> Result<(), Why> {
         match words.next() {
             Some(b"new") => self.open(words, out),
-            Some(b"chars") => self.write_chars(words, page, out),
-            Some(b"bytes") => self.write_bytes(words, page, out),
+            Some(b"chars") => self.write_chars(words, page, lent, out),
+            Some(b"bytes") => self.write_bytes(words, page, lent, out),
             Some(b"flush") => self.flush(words, out),
             Some(b"close") => self.close(words, out),
             Some(b"abandon") => self.abandon(words, out),
@@ -110,39 +112,55 @@ impl Writer {
     }
 
     // `W chars ROOM c c ..`
-    fn write_chars(&mut self, words: Words, page: &[u32], out: &mut Answers) -> Result<(), Why> {
-        let given = words.numbers(NUMBERS)?;
-        let [size, chars @ ..] = given.as_slice() else {
+    fn write_chars(
+        &mut self,
+        words: Words,
+        page: &[u32],
+        lent: Buffers,
+        out: &mut Answers,
+    ) -> Result<(), Why> {
+        let Buffers {
+            numbers,
+            places,
+            ..
+        } = lent;
+        let [size, chars @ ..] = words.numbers(numbers)? else {
             return Err(Why::Number);
         };
         let room = room(*size)?;
-        let before = self.places[..room].to_vec(words.alloc)?;
+        let before = &mut places[..room];
+        before.copy_from_slice(&self.places[..room]);
         let written = write_str(self.record, page, chars, &mut self.places[..room]);
         self.record = written.next;
-        self.came(handed_out(written.answer), None, room, &before, out);
+        self.came(handed_out(written.answer), None, room, before, out);
         Ok(())
     }
 
     // `W bytes ROOM b b ..`
-    fn write_bytes(&mut self, words: Words, page: &[u32], out: &mut Answers) -> Result<(), Why> {
-        let given = words.numbers(NUMBERS)?;
-        let [size, numbers @ ..] = given.as_slice() else {
+    fn write_bytes(
+        &mut self,
+        words: Words,
+        page: &[u32],
+        lent: Buffers,
+        out: &mut Answers,
+    ) -> Result<(), Why> {
+        let Buffers {
+            numbers,
+            places,
+            bytes,
+        } = lent;
+        let [size, numbers @ ..] = words.numbers(numbers)? else {
             return Err(Why::Number);
         };
-        let bytes = words::bytes(words.alloc, numbers)?;
+        let bytes = words::bytes(numbers, bytes)?;
         let room = room(*size)?;
-        let before = self.places[..room].to_vec(words.alloc)?;
+        let before = &mut places[..room];
+        before.copy_from_slice(&self.places[..room]);
         let record = self.record;
-        let lent = &mut self.places[..room];
-        let written = text_output_write::write(record, page, &bytes, lent);
+        let written = text_output_write::write(record, page, bytes, &mut self.places[..room]);
         self.record = written.next;
-        self.came(
-            handed_out(written.answer),
-            Some(written.used),
-            room,
-            &before,
-            out,
-        );
+        let used = Some(written.used);
+        self.came(handed_out(written.answer), used, room, before, out);
         Ok(())
     }
 
